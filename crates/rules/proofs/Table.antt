@@ -1,0 +1,39 @@
+-- "The 151 opcodes stand in a table of 256 entries; the other 105 are undefined."
+use Prim.Native.Nat.{ℕ, zero, suc, _+_, _<_}
+use native.Mathlib.Omega.{arith}
+use mathlib.Core.Path.{_≡_, refl, ap, _∙_}
+use mathlib.Core.List.{List, [], _∷_, map}
+use lib.ListN.{length, getD}
+use Rattle.rules.specs.Basics.{bit}
+use Rattle.rules.specs.Opcodes.{Entry, undefined, isDefined, rows, decode}
+use Rattle.rules.specs.Table.{table}
+
+abbrev defined : List Entry → ℕ
+defined [] = 0
+defined (e ∷ l) = bit (isDefined e) + defined l
+
+-- n numbers from k on
+abbrev from : ℕ → ℕ → List ℕ
+from k zero = []
+from k (suc n) = k ∷ from (suc k) n
+
+-- the one computed test, of all 256 entries
+agrees : table ≡ map decode (from 0 256)
+unfolding table decode
+agrees = refl
+
+-- no opcode stands in two rows
+rows-are : length rows ≡ 151
+rows-are = refl
+
+defined-are : defined table ≡ 151
+unfolding table
+defined-are = refl
+
+at-from : (n i k : ℕ) → i < n → getD (map decode (from k n)) i undefined ≡ decode (k + i)
+at-from zero i k h = absurd (omega arith)
+at-from (suc n) zero k h = ap decode (omega arith)
+at-from (suc n) (suc i) k h = at-from n i (suc k) (omega arith) ∙ ap decode (omega arith)
+
+pub table-at : (i : ℕ) → i < 256 → getD table i undefined ≡ decode i
+table-at i h = let e : 0 + i ≡ i = omega arith in rw agrees (at-from 256 i 0 h ∙ ap decode e)

@@ -1,0 +1,81 @@
+-- The accesses of each addressing mode, after the opcode and the operand were fetched.
+use Prim.Native.Nat.{ℕ, _+_, _*_, _/_, _%_}
+use lib.Dec.{eqb}
+use Rattle.rules.specs.declared.Cpu.{Cpu}
+use Rattle.rules.specs.declared.Mode.{Mode}
+use Rattle.rules.specs.declared.Mode.the-variants.{Immediate, Zero, ZeroX, ZeroY, Absolute, AbsoluteX, AbsoluteY, IndirectX, IndirectY, IndirectBankY}
+use Rattle.rules.specs.Basics.{if_then_else_, address, sum8, sum16}
+use Rattle.rules.specs.Cycles.{Bank, execution, indirect, Cycles, done, read, write, _>>=_, _>>_}
+
+-- one read, and one write, in the execution bank
+abbrev pub get : ℕ → Cycles ℕ
+get p = read execution p done
+
+abbrev pub put : ℕ → ℕ → Cycles (Unit {0})
+put p v = write execution p v (done tt)
+
+-- "the old page with the summed low byte"
+abbrev pub oldPage : ℕ → ℕ → ℕ
+oldPage a i = a / 256 * 256 + (a + i) % 256
+
+-- "pointer low, high (both in page zero)"
+unfoldable pub pointer : ℕ → Cycles ℕ
+pointer z = do
+  low ← get z
+  high ← get (sum8 z 1)
+  done (address low high)
+
+-- z,X and z,Y: "read the unindexed zero-page address"; then the data's address
+unfoldable pub zeroIndexed : ℕ → ℕ → Cycles ℕ
+zeroIndexed z i = get z >> done (sum8 z i)
+
+-- (z,X): "read unindexed, pointer low, high"
+unfoldable pub indexedPointer : ℕ → ℕ → Cycles ℕ
+indexedPointer z i = get z >> pointer (sum8 z i)
+
+-- a,X and a,Y: "read at the old page with the summed low byte; then the data at the full sum"
+unfoldable pub indexed : Bank → ℕ → ℕ → Cycles ℕ
+indexed b a i = read b (oldPage a i) (λ v. done (sum16 a i))
+
+-- "A load stops at that first read if no page was crossed"
+unfoldable pub loadIndexed : Bank → ℕ → ℕ → Cycles ℕ
+loadIndexed b a i = read b (oldPage a i) (λ v. if eqb (oldPage a i) (sum16 a i) then done v else read b (sum16 a i) done)
+
+-- the byte that a load finds
+unfoldable pub load : Cpu → Mode → Cycles ℕ
+load c (Immediate v) = done v
+load c (Zero z) = get z
+load c (ZeroX z) = zeroIndexed z (c .x) >>= get
+load c (ZeroY z) = zeroIndexed z (c .y) >>= get
+load c (Absolute a) = get a
+load c (AbsoluteX a) = loadIndexed execution a (c .x)
+load c (AbsoluteY a) = loadIndexed execution a (c .y)
+load c (IndirectX z) = indexedPointer z (c .x) >>= get
+load c (IndirectY z) = pointer z >>= λ a. loadIndexed execution a (c .y)
+load c (IndirectBankY z) = pointer z >>= λ a. loadIndexed indirect a (c .y)
+
+-- the address where a store or a shift/INC/DEC finds its data; none of them is immediate
+unfoldable pub place : Cpu → Mode → Cycles ℕ
+place c (Immediate v) = done v
+place c (Zero z) = done z
+place c (ZeroX z) = zeroIndexed z (c .x)
+place c (ZeroY z) = zeroIndexed z (c .y)
+place c (Absolute a) = done a
+place c (AbsoluteX a) = indexed execution a (c .x)
+place c (AbsoluteY a) = indexed execution a (c .y)
+place c (IndirectX z) = indexedPointer z (c .x)
+place c (IndirectY z) = pointer z >>= λ a. indexed execution a (c .y)
+place c (IndirectBankY z) = pointer z >>= λ a. indexed indirect a (c .y)
+
+-- and the bank of that data
+abbrev pub bankOf : Mode → Bank
+bankOf (Immediate v) = execution
+bankOf (Zero z) = execution
+bankOf (ZeroX z) = execution
+bankOf (ZeroY z) = execution
+bankOf (Absolute a) = execution
+bankOf (AbsoluteX a) = execution
+bankOf (AbsoluteY a) = execution
+bankOf (IndirectX z) = execution
+bankOf (IndirectY z) = execution
+bankOf (IndirectBankY z) = indirect

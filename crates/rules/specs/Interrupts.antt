@@ -1,0 +1,53 @@
+-- IRQ, NMI and RES, and which of them a step takes.
+use Prim.Native.Nat.{ℕ}
+use mathlib.Core.Bool.{Bool, not, _&&_}
+use Rattle.rules.specs.declared.Cpu.{Cpu}
+use Rattle.rules.specs.Basics.{if_then_else_, bitOf}
+use Rattle.rules.specs.Cycles.{Cycles, _>>=_, _>>_}
+use Rattle.rules.specs.Flags.{byteOf}
+use Rattle.rules.specs.Addressing.{get, put}
+use Rattle.rules.specs.Operations.{stack, down, pushPc, enter, instruction}
+
+-- "lines (bit 0 RES, 1 NMI, 2 IRQ, 1 meaning asserted)"
+abbrev pub resOf : ℕ → Bool
+resOf lines = bitOf 1 lines
+
+abbrev pub nmiOf : ℕ → Bool
+nmiOf lines = bitOf 2 lines
+
+abbrev pub irqOf : ℕ → Bool
+irqOf lines = bitOf 4 lines
+
+pub data Event : Type 0 where
+  res nmi irq execute : Event
+
+-- "First that applies: RES; NMI asserted with last level 0; IRQ with I = 0; else the instruction at PC." last is the last NMI level.
+unfoldable pub eventOf : ℕ → Bool → Cpu → Event
+eventOf lines last c =
+    if resOf lines then res else if nmiOf lines && not last then nmi else if irqOf lines && not (c .p .i) then irq else execute
+
+-- "IRQ, NMI: read PC twice, push PC high, low, P (bit 4 clear), read the vector (FFFE, FFFA), set I."
+unfoldable pub interrupt : ℕ → Cpu → Cycles Cpu
+interrupt vector c = do
+  get (c .pc)
+  get (c .pc)
+  pushPc (c .pc) (c .s)
+  put (stack (down 2 (c .s))) (byteOf (c .p))
+  enter vector c
+
+-- "RES: the same with three stack reads in place of pushes, S lowered by 3, vector FFFC, I set, D kept"
+unfoldable pub reset : Cpu → Cycles Cpu
+reset c = do
+  get (c .pc)
+  get (c .pc)
+  get (stack (c .s))
+  get (stack (down 1 (c .s)))
+  get (stack (down 2 (c .s)))
+  enter 0xFFFC c
+
+-- a step's accesses
+unfoldable pub cyclesOf : Event → Cpu → Cycles Cpu
+cyclesOf res c = reset c
+cyclesOf nmi c = interrupt 0xFFFA c
+cyclesOf irq c = interrupt 0xFFFE c
+cyclesOf execute c = instruction c

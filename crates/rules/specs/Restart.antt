@@ -1,0 +1,44 @@
+-- The restart file: state records in a row.
+use Prim.Native.Nat.{ℕ, _+_, _-_, _*_, _/_, _%_, _<_}
+use mathlib.Core.Path.{_≡_}
+use mathlib.Core.Bool.{Bool, _&&_}
+use mathlib.Core.List.{List, [], _∷_, _++_}
+use lib.Dec.{leb}
+use lib.ListN.{length, take, drop}
+use Rattle.rules.specs.declared.Refusal.the-variants.{Malformed, FileLength}
+use Rattle.rules.specs.declared.RestartAnswer.{RestartAnswer}
+use Rattle.rules.specs.declared.RestartAnswer.the-variants.{Found, NotFound}
+use Rattle.rules.specs.declared.AppendAnswer.{AppendAnswer}
+use Rattle.rules.specs.declared.AppendAnswer.the-variants.{At, Full}
+use Rattle.rules.specs.Record.{wellFormed}
+use Rattle.rules.specs.Answers.{_unless_, tested}
+
+-- a file's length without its tail, and where its last whole record stands
+abbrev pub wholeOf : ℕ → ℕ
+wholeOf n = n / 16 * 16
+
+abbrev pub lastOf : ℕ → ℕ
+lastOf n = wholeOf n - 16
+
+abbrev pub recordAt : List ℕ → ℕ → List ℕ
+recordAt file p = take 16 (drop p file)
+
+-- "The reader answers the last whole record and how many tail bytes follow, 0 to 15." "Restart: 8, then 2 for the last whole record"
+unfoldable pub restart : List ℕ → RestartAnswer
+restart file =
+    let n = length file in
+    tested (FileLength unless (leb 16 n && leb n 65536) ∷ Malformed unless wellFormed (recordAt file (lastOf n)) ∷ []) NotFound
+    (Found (lastOf n) (n % 16))
+
+-- where an append to a file of n bytes goes: it "drops a tail first and never takes the file past 65,536 bytes"
+unfoldable pub appendAt : ℕ → AppendAnswer
+appendAt n = tested (FileLength unless leb (wholeOf n + 16) 65536 ∷ []) Full (At (wholeOf n))
+
+-- A file that appends made, from nothing, in which these records were completely written, the last one first. An append that is cut leaves
+-- fewer than sixteen bytes t in its place: the first ones of its record, none, or, while a tail is being dropped, what is left of that.
+pub data Grown : List (List ℕ) → List ℕ → Type 0 where
+  empty : Grown [] []
+  done : {rs : List (List ℕ)} {file : List ℕ} (r : List ℕ) (p : ℕ) → Grown rs file → appendAt (length file) ≡ At p → length r ≡ 16 →
+      Grown (r ∷ rs) (take p file ++ r)
+  cut : {rs : List (List ℕ)} {file : List ℕ} (t : List ℕ) (p : ℕ) → Grown rs file → appendAt (length file) ≡ At p → length t < 16 →
+      Grown rs (take p file ++ t)

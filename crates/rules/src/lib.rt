@@ -1,0 +1,198 @@
+// The types of document 01: the processor, its bus, its instructions and the answers. What they mean stands in specs/.
+
+// The six flags of P.
+pub struct Flags {
+    pub n: bool,
+    pub v: bool,
+    pub d: bool,
+    pub i: bool,
+    pub z: bool,
+    pub c: bool,
+}
+
+// The processor's registers.
+pub struct Cpu {
+    pub a: u8,
+    pub x: u8,
+    pub y: u8,
+    pub s: u8,
+    pub p: Flags,
+    pub pc: u16,
+}
+
+// The bus beside the image: the part (2, 8 or 9), its registers at 0000 and 0001, the pins of a 6508, the protected pages c
+// and the banks k of the image.
+pub struct Bus {
+    pub part: u8,
+    pub first: u8,
+    pub second: u8,
+    pub pins: u8,
+    pub protected: u8,
+    pub banks: u8,
+}
+
+// What a state record holds, with the bus's pins and banks, which come from beside it.
+pub struct State {
+    pub cpu: Cpu,
+    pub bus: Bus,
+    pub nmi: bool,
+    pub cycles: u32,
+}
+
+// An addressing mode with its operand. IndirectBankY is (z),Y whose data lies in a 6509's indirect bank.
+pub enum Mode {
+    Immediate(u8),
+    Zero(u8),
+    ZeroX(u8),
+    ZeroY(u8),
+    Absolute(u16),
+    AbsoluteX(u16),
+    AbsoluteY(u16),
+    IndirectX(u8),
+    IndirectY(u8),
+    IndirectBankY(u8),
+}
+
+// What is done with a byte that is read.
+pub enum Reading {
+    Ora,
+    And,
+    Eor,
+    Adc,
+    Lda,
+    Cmp,
+    Sbc,
+    Ldx,
+    Ldy,
+    Cpx,
+    Cpy,
+    Bit,
+}
+
+// Which register is stored.
+pub enum Storing {
+    Sta,
+    Stx,
+    Sty,
+}
+
+// How a byte is changed.
+pub enum Changing {
+    Asl,
+    Rol,
+    Lsr,
+    Ror,
+    Dec,
+    Inc,
+}
+
+// When a branch is taken.
+pub enum Condition {
+    Bpl,
+    Bmi,
+    Bvc,
+    Bvs,
+    Bcc,
+    Bcs,
+    Bne,
+    Beq,
+}
+
+// What is done inside the processor. TXS and CLI stand by themselves in Instruction: admission has rules of their own for them.
+pub enum Internal {
+    Clc,
+    Sec,
+    Sei,
+    Clv,
+    Cld,
+    Sed,
+    Tax,
+    Txa,
+    Tay,
+    Tya,
+    Tsx,
+    Inx,
+    Iny,
+    Dex,
+    Dey,
+    Nop,
+}
+
+// An instruction, grouped by its shape on the bus: "an operation with its addressing mode, and the mode with its operand". Where an
+// operation has one mode only, its case carries the operand itself. Of a JSR that is the low byte: the high one is read after the pushes.
+pub enum Instruction {
+    Read(Reading, Mode),
+    Store(Storing, Mode),
+    Change(Changing, Mode),
+    Accumulator(Changing),
+    Implied(Internal),
+    Branch(Condition, u8),
+    Jump(u16),
+    JumpIndirect(u16),
+    Jsr(u8),
+    Rts,
+    Rti,
+    Brk,
+    Php,
+    Plp,
+    Pha,
+    Pla,
+    Txs,
+    Cli,
+}
+
+// Why a call is refused, in the order of document 01's numbers, with the details.
+pub enum Refusal {
+    RecordLength,
+    Malformed,
+    ImageLength,
+    Lines,
+    Room,
+    Undefined { pc: u16, opcode: u8 },
+    ScriptLength,
+    FileLength,
+    Admission,
+    MapRecord(u16),
+    Vectors,
+    Place(u16),
+    StoreAddress(u16),
+    Stack(u16),
+    Successor(u16),
+}
+
+// A step: its number of accesses.
+pub enum StepAnswer {
+    Stepped(u8),
+    Refused(Refusal),
+}
+
+// A run: the steps done and the accesses listed, and why it stopped early.
+pub enum RunAnswer {
+    Played {
+        steps: u64,
+        listed: u64,
+    },
+    Stopped {
+        steps: u64,
+        listed: u64,
+        why: Refusal,
+    },
+}
+
+// The restart file: where the last whole record stands, and how many tail bytes follow.
+pub enum RestartAnswer {
+    Found { at: usize, tail: u8 },
+    NotFound(Refusal),
+}
+
+// Where the next record of a restart file goes.
+pub enum AppendAnswer {
+    At(u64),
+    Full(Refusal),
+}
+
+// Admission.
+pub enum Verdict {
+    Accepted,
+    Barred(Refusal),
+}
