@@ -13,10 +13,10 @@ use Rattle.rules.specs.declared.Mode.{Mode}
 use Rattle.rules.specs.declared.Mode.the-variants.{Immediate, Zero, ZeroX, ZeroY, Absolute, AbsoluteX, AbsoluteY, IndirectX, IndirectY, IndirectBankY}
 use Rattle.rules.specs.declared.Instruction.{Instruction}
 use Rattle.rules.specs.declared.Instruction.the-variants.{Read, Store, Change, Accumulator, Implied, Branch, Jump, JumpIndirect, Jsr, Rts, Rti, Brk, Php, Plp, Pha, Pla, Txs, Cli}
-use Rattle.rules.specs.Basics.{if_then_else_, address, sum16}
-use Rattle.rules.specs.Cycles.{Bank, execution, indirect, done, read, _>>=_, Device, run}
+use Rattle.rules.specs.Basics.{if_then_else_, address}
+use Rattle.rules.specs.Cycles.{Bank, execution, indirect, done, _>>=_, Device, run}
 use Rattle.rules.specs.Opcodes.{Entry, undefined, alone, byte, word, late, Row, rows, among, decode, isDefined}
-use Rattle.rules.specs.Addressing.{load, place, pointer, zeroIndexed, indexedPointer, indexed, loadIndexed, oldPage}
+use Rattle.rules.specs.Addressing.{load, place, pointer, zeroIndexed, indexedPointer, indexed, crosses, loadIndexed}
 use Rattle.rules.specs.Operations.{branchTo, enter, push, pull, jsr, rts, rti, brk, jumpIndirect, perform, operate, instruction, taken, target, next}
 use Rattle.rules.specs.Interrupts.{Event, res, nmi, irq, execute, interrupt, reset, cyclesOf}
 use Rattle.rules.specs.Bus.{Memory, world, board}
@@ -73,7 +73,7 @@ instructionMost Cli = 0
 
 indexed-most : (b : Bank) (a i : ℕ) → Most 2 (loadIndexed b a i)
 unfolding loadIndexed
-indexed-most b a i = λ v. most-if 1 (eqb (oldPage a i) (sum16 a i)) (done v) (read b (sum16 a i) done) tt (λ w. tt)
+indexed-most b a i = λ v. most-if 1 (crosses a i) _ _ (λ w. tt) tt
 
 load-most : (c : Cpu) (m : Mode) → Most (loadMost m) (load c m)
 unfolding load zeroIndexed pointer indexedPointer _>>=_

@@ -5,7 +5,10 @@ pub mod Table
 pub mod Lengths
 pub mod Records
 pub mod Steps
+pub mod Runs
 pub mod Restarts
-pub mod Charts
+pub mod Admissions
+pub mod Images
 pub mod Opened
 pub mod Examples
+pub mod Cases

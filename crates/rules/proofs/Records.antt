@@ -150,7 +150,7 @@ narrow-fits : (k v : ℕ) → (is6508 k || is6509 k) ≡ true → registerFits k
 narrow-fits k v h = go (is6509 k) refl (is6508 k) refl h
   where
     go : (a : Bool) → is6509 k ≡ a → (b : Bool) → is6508 k ≡ b → (b || a) ≡ true → registerFits k (narrow k v) ≡ true
-    go true e b d h = rw (eqb-true k 9 e) (le-leb (v % 16) 15 (omega arith))
+    go true e b d h = rw (eqb-true k 9 e) (le-leb (narrow 9 v) 15 (omega arith))
     go false e true d h = rw (eqb-true k 8 d)
     go false e false d h = absurd (false≢true h)
 

@@ -15,16 +15,16 @@ use Rattle.rules.specs.declared.AppendAnswer.{AppendAnswer}
 use Rattle.rules.specs.declared.AppendAnswer.the-variants.{At, Full}
 use Rattle.rules.specs.Basics.{if_then_else_}
 use Rattle.rules.specs.Record.{wellFormed}
-use Rattle.rules.specs.Restart.{wholeOf, lastOf, recordAt, restart, appendAt, Grown, empty, done, cut}
+use Rattle.rules.specs.Restart.{wholeOf, lastOf, recordAt, restart, appendTests, appendAt, Grown, empty, done, cut}
+use Rattle.rules.proofs.Tests.{tested-case}
 
 -- where an append goes, and that it fits
 append-place : (n p : ℕ) → appendAt n ≡ At p → (p ≡ wholeOf n) × (p + 16 ≤ 65536)
 unfolding appendAt
-append-place n p h = go (leb (wholeOf n + 16) 65536) refl h
-  where
-    go : (b : Bool) → leb (wholeOf n + 16) 65536 ≡ b → (if b then At (wholeOf n) else Full FileLength) ≡ At p → (p ≡ wholeOf n) × (p + 16 ≤ 65536)
-    go true e h = let q : wholeOf n ≡ p = cc in (sym q, omega (arith, leb-true (wholeOf n + 16) 65536 e))
-    go false e h = let z : _≡_ {A = ℕ} 0 1 = cc in absurd (omega arith)
+append-place n p =
+    tested-case (λ (a : AppendAnswer). a ≡ At p → (p ≡ wholeOf n) × (p + 16 ≤ 65536)) (appendTests n) Full _
+    (λ d h. let z : _≡_ {A = ℕ} 0 1 = cc in absurd (omega arith))
+    (λ hs h. let e : p ≡ wholeOf n = cc in (e, omega (arith, leb-true)))
 
 -- the last of these records stands behind the others
 abbrev pub Last : List (List ℕ) → List ℕ → Type 0
@@ -32,10 +32,10 @@ Last [] file = Unit {0}
 Last (r ∷ rs) file = recordAt file (16 * length rs) ≡ r
 
 -- a file that appends made is whole records in a row, and a tail
-pub record Whole (rs : List (List ℕ)) (file : List ℕ) : Type 0 where
-  pub size : wholeOf (length file) ≡ 16 * length rs
-  pub most : length file ≤ 65536
-  pub last : Last rs file
+record Whole (rs : List (List ℕ)) (file : List ℕ) : Type 0 where
+  size : wholeOf (length file) ≡ 16 * length rs
+  most : length file ≤ 65536
+  last : Last rs file
 
 -- the last record stands where it did, whatever tail follows the whole records
 last-kept : (rs : List (List ℕ)) (file t : List ℕ) → 16 * length rs ≤ length file → Last rs file → Last rs (take (16 * length rs) file ++ t)
@@ -74,7 +74,7 @@ module _ (rs : List (List ℕ)) (file : List ℕ) (p : ℕ) (w : Whole rs file) 
       let f = front in
       record { size = omega arith; most = omega arith; last = rw at-end (last-kept rs file t (omega arith) (w .last)) }
 
-pub grown-whole : {rs : List (List ℕ)} {file : List ℕ} → Grown rs file → Whole rs file
+grown-whole : {rs : List (List ℕ)} {file : List ℕ} → Grown rs file → Whole rs file
 grown-whole empty = record { size = refl; most = omega arith; last = tt }
 grown-whole (done {rs} {file} r p g h n) =
     let q = append-place (length file) p h in
@@ -95,6 +95,13 @@ whole-found (r ∷ rs) file w =
     let e : lastOf (length file) ≡ 16 * length rs = omega (arith, w .size) in
     rw (le-leb 16 (length file) (omega (arith, w .size)), le-leb (length file) 65536 (w .most), e, w .last)
 
--- never a mixture: the bytes at the place found are that record (Whole's last)
-pub finds-last : {rs : List (List ℕ)} {file : List ℕ} → Grown rs file → restart file ≡ answerOf rs (length file % 16)
-finds-last {rs} {file} g = whole-found rs file (grown-whole g)
+-- the law: the answer, and never a mixture, for the bytes at the place found are that record
+pub record FindsLast (rs : List (List ℕ)) (file : List ℕ) : Type 0 where
+  pub answer : restart file ≡ answerOf rs (length file % 16)
+  pub bytes : Last rs file
+  pub most : length file ≤ 65536
+
+pub finds-last : {rs : List (List ℕ)} {file : List ℕ} → Grown rs file → FindsLast rs file
+finds-last {rs} {file} g =
+    let w = grown-whole g in
+    record { answer = whole-found rs file w; bytes = w .last; most = w .most }

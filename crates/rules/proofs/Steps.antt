@@ -4,7 +4,8 @@ use native.Mathlib.Omega.{arith}
 use mathlib.Core.Path.{_≡_, refl, ap, subst, _∙_}
 use mathlib.Core.Bool.{true}
 use mathlib.Core.List.{List, [], _∷_, _++_}
-use borrow.Author.Tests.{eqb-true, leb-true}
+use borrow.Author.Tests.{leb-true}
+use lib.Dec.{leb}
 use lib.ListN.{length, take, drop, length-append, length-drop}
 use lib.Seq.{take-at, drop-at}
 use Rattle.rules.specs.declared.State.{State}
@@ -16,7 +17,7 @@ use Rattle.rules.specs.Cycles.{Access}
 use Rattle.rules.specs.Interrupts.{Event, cyclesOf}
 use Rattle.rules.specs.Bus.{Memory, world, board, bytesOf, listOf}
 use Rattle.rules.specs.Record.{cyclesIn, stateOf, recordOf, wellFormed}
-use Rattle.rules.specs.Step.{Outcome, front, busAt, ranOf, stateAfter, finished, stateNow, eventNow, refused, stepTests, step}
+use Rattle.rules.specs.Step.{Outcome, linesFit, front, busAt, ranOf, stateAfter, finished, canStep, stateNow, eventNow, refused, stepTests, step}
 use Rattle.rules.proofs.Tests.{Hold, tested-case}
 use Rattle.rules.proofs.Cycles.{most-length}
 use Rattle.rules.proofs.Lengths.{at-most-seven, two-least}
@@ -62,7 +63,7 @@ module _ {M : Type 0} (memory : Memory M) (r : List ℕ) (m : M) (lines pins : �
 
   pub record Lawful (o : Outcome StepAnswer M) : Type 0 where
     -- "no byte moves"
-    pub stays : (d : Refusal) → o .answer ≡ Refused d → o ≡ refused memory r m lines pins buffer d
+    pub stays : (d : Refusal) → o .answer ≡ Refused d → o ≡ record { answer = Refused d; state = r; image = m; accesses = buffer }
     pub moves : (n : ℕ) → o .answer ≡ Stepped n → Done o n
 
   lawful-refused : (d : Refusal) → Lawful (refused memory r m lines pins buffer d)
@@ -78,17 +79,21 @@ module _ {M : Type 0} (memory : Memory M) (r : List ℕ) (m : M) (lines pins : �
       let n = length trace in
       let ran = ranOf memory e u m in
       let size = list-length trace in
-      let f = formed r (h .1 .0) in
+      let well : wellFormed r ≡ true = search in
+      let fit : linesFit (at r 0) lines pins ≡ true = search in
+      let room : leb 56 (length buffer) ≡ true = search in
+      let can : canStep memory e u m ≡ true = search in
+      let f = formed r well in
       let g = ran-fit memory (at r 0) (at r 11) e u m (record { part = refl; protected = refl; first = f .first; second = f .second }) in
       let seven = most-length (board memory) 7 (cyclesOf e (u .cpu)) (world (busAt e (u .bus)) m) (at-most-seven e (u .cpu)) in
-      let space = leb-true 56 (length buffer) (h .1 .1 .1 .1 .0) in
+      let space = leb-true 56 (length buffer) room in
       record {
         count = refl;
-        least = two-least memory e u m (h .1 .1 .1 .1 .1 .0);
+        least = two-least memory e u m can;
         most = seven;
         cycles = omega arith;
         record-size = refl;
-        record-formed = state-formed (stateAfter memory lines u ran) (at r 0) (at r 11) g (f .part) (f .pages) (level-fits (at r 0) lines pins (h .1 .1 .1 .0));
+        record-formed = state-formed (stateAfter memory lines u ran) (at r 0) (at r 11) g (f .part) (f .pages) (level-fits (at r 0) lines pins fit);
         part = g .part;
         pages = g .protected;
         room = omega arith;

@@ -1,5 +1,6 @@
 -- The accesses of each addressing mode, after the opcode and the operand were fetched.
 use Prim.Native.Nat.{ℕ, _+_, _*_, _/_, _%_}
+use mathlib.Core.Bool.{Bool, not}
 use lib.Dec.{eqb}
 use Rattle.rules.specs.declared.Cpu.{Cpu}
 use Rattle.rules.specs.declared.Mode.{Mode}
@@ -37,9 +38,12 @@ indexedPointer z i = get z >> pointer (sum8 z i)
 unfoldable pub indexed : Bank → ℕ → ℕ → Cycles ℕ
 indexed b a i = read b (oldPage a i) (λ v. done (sum16 a i))
 
+abbrev pub crosses : ℕ → ℕ → Bool
+crosses a i = not (eqb (sum16 a i / 256) (a / 256))
+
 -- "A load stops at that first read if no page was crossed"
 unfoldable pub loadIndexed : Bank → ℕ → ℕ → Cycles ℕ
-loadIndexed b a i = read b (oldPage a i) (λ v. if eqb (oldPage a i) (sum16 a i) then done v else read b (sum16 a i) done)
+loadIndexed b a i = read b (oldPage a i) (λ v. if crosses a i then read b (sum16 a i) done else done v)
 
 -- the byte that a load finds
 unfoldable pub load : Cpu → Mode → Cycles ℕ

@@ -11,7 +11,7 @@ use Rattle.rules.specs.declared.RestartAnswer.the-variants.{Found, NotFo
 use Rattle.rules.specs.declared.AppendAnswer.{AppendAnswer}
 use Rattle.rules.specs.declared.AppendAnswer.the-variants.{At, Full}
 use Rattle.rules.specs.Record.{wellFormed}
-use Rattle.rules.specs.Answers.{_unless_, tested}
+use Rattle.rules.specs.Answers.{Test, _unless_, tested}
 
 -- a file's length without its tail, and where its last whole record stands
 abbrev pub wholeOf : ℕ → ℕ
@@ -23,16 +23,22 @@ lastOf n = wholeOf n - 16
 abbrev pub recordAt : List ℕ → ℕ → List ℕ
 recordAt file p = take 16 (drop p file)
 
--- "The reader answers the last whole record and how many tail bytes follow, 0 to 15." "Restart: 8, then 2 for the last whole record"
-unfoldable pub restart : List ℕ → RestartAnswer
-restart file =
+-- "Restart: 8, then 2 for the last whole record"
+abbrev pub restartTests : List ℕ → List Test
+restartTests file =
     let n = length file in
-    tested (FileLength unless (leb 16 n && leb n 65536) ∷ Malformed unless wellFormed (recordAt file (lastOf n)) ∷ []) NotFound
-    (Found (lastOf n) (n % 16))
+    FileLength unless (leb 16 n && leb n 65536) ∷ Malformed unless wellFormed (recordAt file (lastOf n)) ∷ []
 
--- where an append to a file of n bytes goes: it "drops a tail first and never takes the file past 65,536 bytes"
+-- "The reader answers the last whole record and how many tail bytes follow, 0 to 15."
+unfoldable pub restart : List ℕ → RestartAnswer
+restart file = tested (restartTests file) NotFound (Found (lastOf (length file)) (length file % 16))
+
+-- Where an append to a file of n bytes goes: it "drops a tail first and never takes the file past 65,536 bytes".
+abbrev pub appendTests : ℕ → List Test
+appendTests n = FileLength unless leb (wholeOf n + 16) 65536 ∷ []
+
 unfoldable pub appendAt : ℕ → AppendAnswer
-appendAt n = tested (FileLength unless leb (wholeOf n + 16) 65536 ∷ []) Full (At (wholeOf n))
+appendAt n = tested (appendTests n) Full (At (wholeOf n))
 
 -- A file that appends made, from nothing, in which these records were completely written, the last one first. An append that is cut leaves
 -- fewer than sixteen bytes t in its place: the first ones of its record, none, or, while a tail is being dropped, what is left of that.

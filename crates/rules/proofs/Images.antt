@@ -87,7 +87,7 @@ unfolding finished
 finished-same lines u buffer x y e =
     record {
       answer = rw (e .list);
-      state = rw (e .value, e .after .bus, e .list);
+      state = cc;
       image = e .after .image;
       accesses = rw (e .list);
     }

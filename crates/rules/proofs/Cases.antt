@@ -1,0 +1,219 @@
+-- Further cases, each of a sentence that no starred example tells from a likely misreading.
+use Prim.Native.Nat.{ℕ, _+_, _*_}
+use mathlib.Core.Path.{_≡_, refl}
+use mathlib.Core.Bool.{Bool, _&&_}
+use mathlib.Core.List.{List, [], _∷_, _++_}
+use lib.Dec.{eqb}
+use lib.ListN.{take, drop, set, replicate}
+use Rattle.rules.specs.declared.StepAnswer.{StepAnswer}
+use Rattle.rules.specs.declared.RunAnswer.{RunAnswer}
+use Rattle.rules.specs.Basics.{at}
+use Rattle.rules.specs.Bus.{Chart, charts}
+use Rattle.rules.specs.Answers.{stepWord, runWords, restartWord, appendWord, verdictWord}
+use Rattle.rules.specs.Step.{Outcome, step}
+use Rattle.rules.specs.Run.{runOf}
+use Rattle.rules.specs.Restart.{restart, appendAt}
+use Rattle.rules.specs.Admission.{admit}
+use Rattle.rules.proofs.Opened.{opened}
+use Rattle.rules.proofs.Examples.{same, failing, zeros, _from_holds_, state, registers, stepped, runs, on, left, reads, writes, keeps}
+
+-- PC after a step
+abbrev pcIs : Outcome StepAnswer Chart → ℕ → ℕ → Bool
+pcIs o low high = same (take 2 (drop 6 (o .state))) (low ∷ high ∷ [])
+
+abbrev steps : List Bool
+steps =
+    -- 1 Room 55 refuses, 56 runs
+    eqb (stepWord (step charts (state 2 0 0 0 0x20 0x8000) (zeros 1) 0 0 (replicate 55 0) .answer)) 5
+    ∷ eqb (stepWord (step charts (state 2 0 0 0 0x20 0x8000) (zeros 1) 0 0 (replicate 56 0) .answer)) (256 * 7)
+    -- 3 the step printer's record
+    ∷ same (runs (state 2 0 0 0xFF 0x24 0x8000) (zeros 1 from 0x8000 holds (0xA5 ∷ 0x10 ∷ []) from 0x0010 holds (0x42 ∷ [])) .state)
+    (0x02 ∷ 0x42 ∷ 0x00 ∷ 0x00 ∷ 0xFF ∷ 0x24 ∷ 0x02 ∷ 0x80 ∷ 0 ∷ 0 ∷ 0 ∷ 0 ∷ 0x03 ∷ 0 ∷ 0 ∷ 0 ∷ [])
+    -- 4 "The top c pages are write-protected": c = 1, STA FF00 is listed and changes nothing, STA FEFF changes the byte
+    ∷ (let o = runs (set (state 2 7 0 0xFF 0x20 0x8000) 11 1) (zeros 1 from 0x8000 holds (0x8D ∷ 0x00 ∷ 0xFF ∷ [])) in
+    left o 4 7 0xFF 0x20 && writes o 3 0xFF00 0 7 && keeps o 0xFF00 0)
+    ∷ keeps (runs (set (state 2 7 0 0xFF 0x20 0x8000) 11 1) (zeros 1 from 0x8000 holds (0x8D ∷ 0xFF ∷ 0xFE ∷ []))) 0xFEFF 7
+    -- 6 "judged by the address on the bus": c = 255, a 6508's PHA at 01FF changes nothing, its STA 00FF the same image byte
+    ∷ keeps (runs (set (state 8 7 0 0xFF 0x20 0x8000) 11 255) (zeros 1 from 0x8000 holds (0x48 ∷ []))) 0x00FF 0
+    ∷ keeps (runs (set (state 8 7 0 0xFF 0x20 0x8000) 11 255) (zeros 1 from 0x8000 holds (0x85 ∷ 0xFF ∷ []))) 0x00FF 7
+    -- 8 6508: "0100, 0101 reach the cells under the registers": PHA with S = 0
+    ∷ (let o = runs (state 8 7 0 0x00 0x20 0x8000) (zeros 1 from 0x8000 holds (0x48 ∷ [])) in
+    writes o 2 0x0100 0 7 && keeps o 0 7 && keeps o 0x0100 0 && eqb (at (o .state) 8) 0)
+    -- 9 6509: LDA (10),Y reads its pointer in the execution bank and its data in the indirect one, modulo k; CMP (10),Y stays
+    ∷ (let o = runs (registers 2 5 (state 9 0 0 0xFF 0x20 0x8000)) (zeros 2 from 0x8000 holds (0xB1 ∷ 0x10 ∷ []) from 0x0011 holds (0x90 ∷ []) from 0x19000 holds (0x77 ∷ [])) in
+    left o 5 0x77 0xFF 0x20 && reads o 3 0x0011 2 0x90 && reads o 4 0x9000 5 0x77)
+    ∷ reads (runs (registers 2 5 (state 9 0 0 0xFF 0x20 0x8000)) (zeros 2 from 0x8000 holds (0xD1 ∷ 0x10 ∷ []) from 0x0011 holds (0x90 ∷ []))) 4 0x9000 2 0
+    -- 11 6509: STA (10),Y makes its last two accesses in the indirect bank
+    ∷ (let o = runs (registers 2 5 (state 9 7 0 0xFF 0x20 0x8000)) (zeros 2 from 0x8000 holds (0x91 ∷ 0x10 ∷ []) from 0x0011 holds (0x90 ∷ [])) in
+    reads o 4 0x9000 5 0 && writes o 5 0x9000 5 7 && keeps o 0x19000 7)
+    -- 12 6509: "a write is listed whole, its high bits dropped"; "Register writes leave the image byte beneath unchanged"
+    ∷ (let o = runs (registers 2 0 (state 9 0xF7 0 0xFF 0x20 0x8000)) (zeros 1 from 0x8000 holds (0x85 ∷ 0x01 ∷ [])) in
+    writes o 2 0x0001 2 0xF7 && eqb (at (o .state) 9) 7 && keeps o 1 0)
+    -- 13 IRQ: FFFE, P with bit 4 clear, I set; with I set the instruction
+    ∷ (let o = stepped (state 2 7 0 0xFF 0x20 0x8000) (zeros 1 from 0x8000 holds (0xEA ∷ [])) 4 0 in
+    left o 7 7 0xFC 0x24 && writes o 4 0x01FD 0 0x20 && reads o 5 0xFFFE 0 0)
+    ∷ left (stepped (state 2 7 0 0xFF 0x24 0x8000) (zeros 1 from 0x8000 holds (0xEA ∷ [])) 4 0) 2 7 0xFF 0x24
+    -- 15 NMI: an edge takes FFFA before an IRQ, and the level is stored; a level does not
+    ∷ (let o = stepped (state 2 7 0 0xFF 0x20 0x8000) (zeros 1 from 0x8000 holds (0xEA ∷ [])) 6 0 in
+    left o 7 7 0xFC 0x24 && reads o 5 0xFFFA 0 0 && eqb (at (o .state) 10) 1)
+    ∷ left (stepped (set (state 2 7 0 0xFF 0x20 0x8000) 10 1) (zeros 1 from 0x8000 holds (0xEA ∷ [])) 2 0) 2 7 0xFF 0x20
+    -- 17 RES before NMI, whose edge is lost; three stack reads, FFFC, D kept; a 6509's registers are 15 before the first access, a 6508's 0
+    ∷ (let o = stepped (registers 1 2 (state 9 7 0 0x01 0x28 0x8000)) (zeros 1 from 0xFFFC holds (0x34 ∷ 0x12 ∷ [])) 3 0 in
+    left o 7 7 0xFE 0x2C && reads o 0 0x8000 15 0 && reads o 4 0x01FF 15 0 && reads o 5 0xFFFC 15 0x34 && eqb (at (o .state) 10) 1 && eqb (at (o .state) 8) 15)
+    ∷ same (take 2 (drop 8 (stepped (registers 1 2 (state 8 7 0 0x01 0x28 0x8000)) (zeros 1) 1 0 .state))) (0 ∷ 0 ∷ [])
+    -- 19 BRK pushes PC+2 and P with bit 4 set; PHP pushes bits 4, 5 set
+    ∷ (let o = on 7 0 0xFF 0x20 (0x00 ∷ []) in left o 7 7 0xFC 0x24 && writes o 3 0x01FE 0 0x02 && writes o 4 0x01FD 0 0x30 && reads o 5 0xFFFE 0 0)
+    ∷ writes (on 7 0 0xFF 0x24 (0x08 ∷ [])) 2 0x01FF 0 0x34
+    -- 21 JMP (80FF) takes its high byte from "the next location"
+    ∷ pcIs (runs (state 2 0 0 0 0x20 0x8000) (zeros 1 from 0x8000 holds (0x6C ∷ 0xFF ∷ 0x80 ∷ []) from 0x80FF holds (0x34 ∷ 0x12 ∷ []))) 0x34 0x12
+    -- 22 JSR at 01FD, S = FF, reads its high operand after the pushes
+    ∷ reads (runs (state 2 0 0 0xFF 0x20 0x01FD) (zeros 1 from 0x01FD holds (0x20 ∷ 0x34 ∷ 0x12 ∷ []))) 5 0x01FF 0 0x01
+    -- 23 RTS reads where it returns to, and PC is one more; RTI goes there itself
+    ∷ (let o = runs (state 2 7 0 0xFD 0x20 0x8000) (zeros 1 from 0x8000 holds (0x60 ∷ []) from 0x01FE holds (0xFF ∷ 0x12 ∷ [])) in
+    left o 6 7 0xFF 0x20 && reads o 2 0x01FD 0 0 && reads o 5 0x12FF 0 0 && pcIs o 0x00 0x13)
+    ∷ (let o = runs (state 2 7 0 0xFC 0x20 0x8000) (zeros 1 from 0x8000 holds (0x40 ∷ []) from 0x01FD holds (0xFF ∷ 0x34 ∷ 0x12 ∷ [])) in
+    left o 6 7 0xFF 0xEF && pcIs o 0x34 0x12)
+    -- 25 z,X wraps in page zero; (z,X) reads unindexed first; (FF),Y takes its pointer's high byte at 0000
+    ∷ reads (on 0 0x02 0 0x20 (0xB5 ∷ 0xFF ∷ [])) 3 0x0001 0 0
+    ∷ (let o = on 0 0x02 0 0x20 (0xA1 ∷ 0xFD ∷ []) in left o 6 0 0 0x22 && reads o 2 0x00FD 0 0 && reads o 3 0x00FF 0 0 && reads o 4 0x0000 0 0)
+    ∷ reads (on 0 0 0 0x20 (0xB1 ∷ 0xFF ∷ [])) 3 0x0000 0 0
+    -- 28 shifts set N, Z, C: ROR A of 01 with C, LSR, ASL, ROL
+    ∷ left (on 0x01 0 0 0x21 (0x6A ∷ [])) 2 0x80 0 0xA1
+    ∷ left (on 0x01 0 0 0xA0 (0x4A ∷ [])) 2 0x00 0 0x23
+    ∷ left (on 0x80 0 0 0x20 (0x0A ∷ [])) 2 0x00 0 0x23
+    ∷ left (on 0x40 0 0 0x21 (0x2A ∷ [])) 2 0x81 0 0xA0
+    -- 32 a compare: below, equal; BIT takes N, V from memory
+    ∷ left (on 0x10 0 0 0x21 (0xC9 ∷ 0x20 ∷ [])) 2 0x10 0 0xA0
+    ∷ left (on 0x10 0 0 0x20 (0xC9 ∷ 0x10 ∷ [])) 2 0x10 0 0x23
+    ∷ left (runs (state 2 0x3F 0 0 0x20 0x8000) (zeros 1 from 0x8000 holds (0x24 ∷ 0x10 ∷ []) from 0x10 holds (0xC0 ∷ []))) 3 0x3F 0 0xE2
+    -- 35 TXS sets no flags, TSX does
+    ∷ left (on 7 0 0xFF 0x20 (0x9A ∷ [])) 2 7 0x00 0x20
+    ∷ left (on 7 1 0x00 0x20 (0xBA ∷ [])) 2 7 0x00 0x22
+    ∷ []
+
+computed-steps : failing 1 steps ≡ []
+unfolding opened
+computed-steps = refl
+
+abbrev refusals : List Bool
+refusals =
+    -- 1 "Step: 1 to 6 in order", each with all later ones too; "6 adds PC and opcode"
+    eqb (stepWord (step charts [] (zeros 2) 8 0 [] .answer)) 1
+    ∷ eqb (stepWord (step charts (state 2 0 0 0 0x30 0x8000) (zeros 2) 8 0 [] .answer)) 2
+    ∷ eqb (stepWord (step charts (state 2 0 0 0 0x20 0x8000) (zeros 2) 8 0 [] .answer)) 3
+    ∷ eqb (stepWord (step charts (state 2 0 0 0 0x20 0x8000) (zeros 1) 8 0 [] .answer)) 4
+    ∷ eqb (stepWord (step charts (state 2 0 0 0 0x20 0x8000) (zeros 1 from 0x8000 holds (0x02 ∷ [])) 0 0 [] .answer)) 5
+    ∷ eqb (stepWord (on 0 0 0 0x20 (0x02 ∷ []) .answer)) 0x80000206
+    -- 7 malformed: a 6502's register not 0, a 6509's 16, a 6508's NMI level, a 6509's c, part 03
+    ∷ eqb (stepWord (runs (registers 1 0 (state 2 0 0 0 0x20 0x8000)) (zeros 1) .answer)) 2
+    ∷ eqb (stepWord (runs (registers 0 16 (state 9 0 0 0 0x20 0x8000)) (zeros 1) .answer)) 2
+    ∷ eqb (stepWord (runs (set (state 8 0 0 0 0x20 0x8000) 10 1) (zeros 1) .answer)) 2
+    ∷ eqb (stepWord (runs (set (state 9 0 0 0 0x20 0x8000) 11 1) (zeros 1) .answer)) 2
+    ∷ eqb (stepWord (runs (state 3 0 0 0 0x20 0x8000) (zeros 1) .answer)) 2
+    -- 12 a 6509's image of three banks; NMI on a 6508, and pins off it
+    ∷ eqb (stepWord (runs (state 9 0 0 0 0x20 0x8000) (zeros 3) .answer)) 3
+    ∷ eqb (stepWord (stepped (state 8 0 0 0 0x20 0x8000) (zeros 1) 2 0 .answer)) 4
+    ∷ eqb (stepWord (stepped (state 9 0 0 0 0x20 0x8000) (zeros 1) 0 1 .answer)) 4
+    -- 15 a run: 3 before 7, 7 before anything; one step stands and is counted, the next is undefined
+    ∷ eqb (runWords (runOf charts (state 2 0 0 0 0x20 0x8000) (zeros 2) (0 ∷ []) [] .answer) .word) 3
+    ∷ eqb (runWords (runOf charts (state 2 0 0 0 0x20 0x8000) (zeros 1) (0 ∷ []) [] .answer) .word) 7
+    ∷ (let o = runOf charts (state 2 0 0 0 0x20 0x8000) (zeros 1 from 0x8000 holds (0xEA ∷ 0x02 ∷ [])) (0 ∷ 0 ∷ 0 ∷ 0 ∷ []) (replicate 72 9) in
+    let w = runWords (o .answer) in
+    same (w .word ∷ w .steps ∷ w .listed ∷ at (o .state) 12 ∷ at (o .accesses) 15 ∷ at (o .accesses) 16 ∷ []) (0x80010206 ∷ 1 ∷ 2 ∷ 2 ∷ 0 ∷ 9 ∷ []))
+    -- 18 restart: 8 under 16 bytes; 2 for the last whole record; its place and the tail; 8 where an append would pass 65,536 bytes
+    ∷ eqb (restartWord (restart (replicate 15 2))) 8
+    ∷ eqb (restartWord (restart (replicate 16 2))) 2
+    ∷ eqb (restartWord (restart (replicate 16 2 ++ state 2 0 0 0 0x20 0x8000 ++ replicate 5 2))) (256 * 5 + 65536 * 16)
+    ∷ same (appendWord (appendAt 21) ∷ appendWord (appendAt 65535) ∷ appendWord (appendAt 65536) ∷ []) (65536 * 16 ∷ 65536 * 65520 ∷ 8 ∷ [])
+    ∷ []
+
+computed-refusals : failing 1 refusals ≡ []
+unfolding opened
+computed-refusals = refl
+
+-- A firmware of page FF, with c = 1, and its map: main at FF00, a routine at FF20, a handler at FF30.
+
+abbrev firmware : List ℕ
+firmware =
+    -- FF00 LDX #FF, TXS, JSR FF20, PHA, PLA, BEQ FF00, STA 0200, JMP FF00
+    0xA2 ∷ 0xFF ∷ 0x9A ∷ 0x20 ∷ 0x20 ∷ 0xFF ∷ 0x48 ∷ 0x68 ∷ 0xF0 ∷ 0xF6 ∷ 0x8D ∷ 0x00 ∷ 0x02 ∷ 0x4C ∷ 0x00 ∷ 0xFF ∷
+    -- FF10
+    0 ∷ 0 ∷ 0 ∷ 0 ∷ 0 ∷ 0 ∷ 0 ∷ 0 ∷ 0 ∷ 0 ∷ 0 ∷ 0 ∷ 0 ∷ 0 ∷ 0 ∷ 0 ∷
+    -- FF20 PHP, PLA, INC 0200,X, RTS
+    0x08 ∷ 0x68 ∷ 0xFE ∷ 0x00 ∷ 0x02 ∷ 0x60 ∷ 0 ∷ 0 ∷ 0 ∷ 0 ∷ 0 ∷ 0 ∷ 0 ∷ 0 ∷ 0 ∷ 0 ∷
+    -- FF30 RTI
+    0x40 ∷ []
+
+abbrev mark : ℕ → ℕ → ℕ → ℕ → List ℕ
+mark low kind height need = low ∷ 0xFF ∷ kind ∷ height ∷ need ∷ 0 ∷ 0 ∷ 0 ∷ []
+
+abbrev marks : List ℕ
+marks =
+    mark 0x00 1 0 3 ++ mark 0x02 1 0 3 ++ mark 0x03 1 0 3 ++ mark 0x06 1 0 3 ++ mark 0x07 1 1 2 ++ mark 0x08 1 0 3 ++ mark 0x0A 1 0 3 ++
+    mark 0x0D 1 0 3 ++ mark 0x20 2 0 1 ++ mark 0x21 2 1 0 ++ mark 0x22 2 0 1 ++ mark 0x25 2 0 1 ++ mark 0x30 3 0 0
+
+-- page FF of k banks: code from FF00 on, and the vectors FF00 and FF00 + h
+abbrev page : ℕ → List ℕ → ℕ → Chart
+page k code h = zeros k from 0xFF00 holds code from 0xFFFC holds (0x00 ∷ 0xFF ∷ h ∷ 0xFF ∷ [])
+
+abbrev verdict : Chart → ℕ → List ℕ → ℕ
+verdict m c map = verdictWord (admit charts m c map)
+
+abbrev judged : ℕ → List ℕ → ℕ → List ℕ → ℕ
+judged k code c map = verdict (page k code 0x30) c map
+
+-- with code byte i changed to v, and with byte j of mark i
+abbrev code : ℕ → ℕ → ℕ
+code i v = judged 1 (set firmware i v) 1 marks
+
+abbrev marking : ℕ → ℕ → ℕ → ℕ
+marking i j v = judged 1 firmware 1 (set marks (8 * i + j) v)
+
+-- refused by this number at this record
+abbrev number : ℕ → ℕ → ℕ
+number n i = n + 65536 * i
+
+-- "Admitted, c = 1: FF00 A2 FF 9A 58 4C 04 FF 40, vectors FF00 and FF07, map FF00 FF02 FF03 FF04 main, FF07 handler, all 0."
+abbrev paper : ℕ → ℕ → ℕ
+paper last need =
+    verdict (page 1 (0xA2 ∷ 0xFF ∷ 0x9A ∷ 0x58 ∷ 0x4C ∷ 0x04 ∷ 0xFF ∷ last ∷ []) 0x07) 1
+    (mark 0x00 1 0 need ++ mark 0x02 1 0 need ++ mark 0x03 1 0 need ++ mark 0x04 1 0 need ++ mark 0x07 3 0 0)
+
+-- a handler at FF4C: its vector's low byte is a JMP at FFFE
+abbrev wraps : ℕ
+wraps =
+    verdict (page 1 (0x4C ∷ 0x00 ∷ 0xFF ∷ []) 0x4C from 0xFF4C holds (0x40 ∷ [])) 1 (mark 0x00 1 0 0 ++ mark 0x4C 3 0 0 ++ mark 0xFE 1 0 0)
+
+abbrev maps : List Bool
+maps =
+    -- 1 the document's: admitted; with 60 at FF07: 15, index 4; needs 253 and 0 pass, 254 and 0 don't
+    same (paper 0x40 0 ∷ paper 0x60 0 ∷ paper 0x40 253 ∷ paper 0x40 254 ∷ []) (0 ∷ number 15 4 ∷ 0 ∷ 12 ∷ [])
+    -- 2 the firmware above; 10: image length, c, map length
+    ∷ same (judged 1 firmware 1 marks ∷ judged 2 firmware 1 marks ∷ judged 1 firmware 0 marks ∷ judged 1 firmware 255 marks ∷ []) (0 ∷ 10 ∷ 10 ∷ 10 ∷ [])
+    ∷ same (judged 1 firmware 1 [] ∷ judged 1 firmware 1 (0 ∷ marks) ∷ judged 1 firmware 254 marks ∷ []) (10 ∷ 10 ∷ 0 ∷ [])
+    -- 4 11: kind, zeros, ascending, before 12
+    ∷ same (marking 2 2 0 ∷ marking 2 2 4 ∷ marking 2 7 1 ∷ marking 2 0 0x02 ∷ marking 0 0 0x02 ∷ []) (number 11 2 ∷ number 11 2 ∷ number 11 2 ∷ number 11 2 ∷ number 11 1 ∷ [])
+    -- 5 12: the vectors' kinds and heights
+    ∷ same (marking 0 2 2 ∷ marking 0 3 1 ∷ marking 12 2 1 ∷ marking 12 3 1 ∷ []) (12 ∷ 12 ∷ 12 ∷ 12 ∷ [])
+    -- 6 13: undefined, BRK, PLP, JMP (a), 81, 91
+    ∷ same (code 2 0x02 ∷ code 2 0x00 ∷ code 2 0x28 ∷ code 13 0x6C ∷ code 8 0x81 ∷ code 8 0x91 ∷ [])
+    (number 13 1 ∷ number 13 1 ∷ number 13 1 ∷ number 13 7 ∷ number 13 5 ∷ number 13 5 ∷ [])
+    -- 7 in no protected page; JMP at FFFE, past FFFF; BMI at FFFE, whose next address is 0000, is 16
+    ∷ same (judged 1 firmware 1 (set (mark 0x00 1 0 0) 1 0xFE ++ marks) ∷ wraps ∷ judged 1 firmware 1 (marks ++ mark 0xFE 1 0 0) ∷ [])
+    (number 13 0 ∷ number 13 2 ∷ number 16 13 ∷ [])
+    -- 8 14: STA 0100, 01FF, 00FF; INC 0001,X, 01FF,X, 0000,X
+    ∷ same (code 12 0x01 ∷ judged 1 (set (set firmware 11 0xFF) 12 0x01) 1 marks ∷ judged 1 (set (set firmware 11 0xFF) 12 0x00) 1 marks ∷ []) (number 14 6 ∷ number 14 6 ∷ 0 ∷ [])
+    ∷ same (judged 1 (set (set firmware 35 1) 36 0) 1 marks ∷ judged 1 (set (set firmware 35 0xFF) 36 1) 1 marks ∷ judged 1 (set (set firmware 35 0) 36 0) 1 marks ∷ [])
+    (number 14 10 ∷ number 14 10 ∷ 0 ∷ [])
+    -- 10 15: RTS in main, RTI and TXS and CLI in a routine, RTS in a handler, PLA at height 0
+    ∷ same (code 2 0x60 ∷ code 33 0x40 ∷ code 33 0x9A ∷ code 33 0x58 ∷ code 48 0x60 ∷ code 2 0x68 ∷ []) (number 15 1 ∷ number 15 9 ∷ number 15 9 ∷ number 15 9 ∷ number 15 12 ∷ number 15 1 ∷ [])
+    -- 11 16: next address unmarked, of another kind, height, need; branch and jump target; JSR's target no routine, or its need
+    ∷ same (code 0 0xEA ∷ marking 3 2 2 ∷ marking 3 3 1 ∷ marking 3 4 4 ∷ code 9 0xF7 ∷ code 14 0x01 ∷ code 4 0x30 ∷ marking 8 4 2 ∷ [])
+    (number 16 0 ∷ number 16 2 ∷ number 16 2 ∷ number 16 2 ∷ number 16 5 ∷ number 16 7 ∷ number 16 2 ∷ number 16 2 ∷ [])
+    -- 12 16: PHA's successor as high, or in as much need; PLA's not lower, or in more need
+    ∷ same (marking 4 3 0 ∷ marking 4 4 3 ∷ marking 5 3 1 ∷ marking 4 4 1 ∷ []) (number 16 3 ∷ number 16 3 ∷ number 16 4 ∷ number 16 4 ∷ [])
+    ∷ []
+
+computed-maps : failing 1 maps ≡ []
+unfolding opened
+computed-maps = refl
