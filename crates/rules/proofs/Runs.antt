@@ -5,15 +5,15 @@ use mathlib.Core.Path.{_≡_, refl, sym, ap, _∙_}
 use mathlib.Core.Bool.{true}
 use mathlib.Core.List.{List, [], _∷_, _++_}
 use lib.ListN.{length, take, drop, length-append, length-drop}
-use lib.Seq.{length-take-le, take-take, take-at}
+use lib.Seq.{length-take-le, take-take, take-at, take-append-add}
 use Rattle.rules.specs.declared.StepAnswer.{StepAnswer}
 use Rattle.rules.specs.declared.StepAnswer.the-variants.{Stepped, Refused}
 use Rattle.rules.specs.declared.RunAnswer.{RunAnswer}
-use Rattle.rules.specs.Bus.{Memory}
+use Rattle.rules.specs.Bus.{Memory, listOf}
 use Rattle.rules.specs.Record.{wellFormed}
 use Rattle.rules.specs.Step.{Outcome}
-use Rattle.rules.specs.Run.{Tally, stepAt, moved, stopped, play}
-use Rattle.rules.proofs.Steps.{lawful, Done}
+use Rattle.rules.specs.Run.{Tally, stepAt, moved, goesOn, play}
+use Rattle.rules.proofs.Steps.{trace, lawful, Done}
 
 module _ {M : Type 0} (memory : Memory M) where
   -- where a run may stand: what was listed lies in the buffer, and the record is well formed
@@ -75,8 +75,23 @@ module _ {M : Type 0} (memory : Memory M) where
   play-kept (lines ∷ pins ∷ script) s q = go (stepAt memory lines pins s .answer) refl (λ t. play-kept script t)
     where
       go : (a : StepAnswer) → stepAt memory lines pins s .answer ≡ a → ((t : Outcome Tally M) → Sound t → Kept t (play memory script t)) →
-          Kept s (elim a [ Stepped n ↦ play memory script (moved memory s (stepAt memory lines pins s) n) | Refused e ↦ stopped memory s e ])
-      go (Stepped n) e rest =
-          moved-kept lines pins s n q e (play memory script (moved memory s (stepAt memory lines pins s) n))
-          (rest (moved memory s (stepAt memory lines pins s) n) (moved-sound lines pins s n q e))
+          Kept s (goesOn memory (play memory script) s (stepAt memory lines pins s) a)
+      go (Stepped n) e rest = moved-kept lines pins s n q e (play memory script (moved memory s (stepAt memory lines pins s) n)) (rest _ (moved-sound lines pins s n q e))
       go (Refused d) e rest = ended-kept s _ q
+
+  -- what a step listed stands there when all later steps are done
+  module _ (lines pins : ℕ) (script : List ℕ) (s : Outcome Tally M) (n : ℕ) (q : Sound s) (e : stepAt memory lines pins s .answer ≡ Stepped n) where
+    abbrev before : List ℕ
+    before = take (8 * s .answer .listed) (s .accesses)
+
+    pub step-kept : take (8 * (s .answer .listed + n)) (play memory (lines ∷ pins ∷ script) s .accesses) ≡
+        before ++ listOf (trace memory (s .state) (s .image) lines pins (drop (8 * s .answer .listed) (s .accesses)))
+    unfolding play
+    step-kept =
+        let o = stepAt memory lines pins s in
+        let k = play-kept script (moved memory s o n) (moved-sound lines pins s n q e) in
+        let d = length-take-le (8 * s .answer .listed) (s .accesses) (q .within) in
+        let size : 8 * (s .answer .listed + n) ≡ length before + 8 * n = omega arith in
+        ap (λ (a : StepAnswer). take (8 * (s .answer .listed + n)) (goesOn memory (play memory script) s o a .accesses)) e ∙ k .listed
+        ∙ ap (λ (j : ℕ). take j (before ++ o .accesses)) size ∙ take-append-add before (o .accesses) (8 * n)
+        ∙ ap (λ (l : List ℕ). before ++ l) (done lines pins s n q e .listed)

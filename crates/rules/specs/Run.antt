@@ -43,13 +43,16 @@ module _ {M : Type 0} (memory : Memory M) where
   abbrev pub stopped : Outcome Tally M → Refusal → Outcome RunAnswer M
   stopped s e = ended s (Stopped (s .answer .steps) (s .answer .listed) e)
 
+  -- after a step o that answered so: the rest of the run, or its end
+  abbrev pub goesOn : (Outcome Tally M → Outcome RunAnswer M) → Outcome Tally M → Outcome StepAnswer M → StepAnswer → Outcome RunAnswer M
+  goesOn rest s o (Stepped n) = rest (moved s o n)
+  goesOn rest s o (Refused e) = stopped s e
+
   -- step by step to the script's end; its length is even
   unfoldable pub play : List ℕ → Outcome Tally M → Outcome RunAnswer M
   play [] s = played s
   play (lines ∷ []) s = played s
-  play (lines ∷ pins ∷ script) s =
-      let o = stepAt lines pins s in
-      elim (o .answer) [ Stepped n ↦ play script (moved s o n) | Refused e ↦ stopped s e ]
+  play (lines ∷ pins ∷ script) s = let o = stepAt lines pins s in goesOn (λ t. play script t) s o (o .answer)
 
   module _ (r : List ℕ) (m : M) (script buffer : List ℕ) where
     abbrev pub start : Outcome Tally M
