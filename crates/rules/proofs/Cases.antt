@@ -6,7 +6,6 @@ use mathlib.Core.List.{List, [], _∷_, _++_}
 use lib.Dec.{eqb}
 use lib.ListN.{take, drop, set, replicate}
 use Rattle.rules.specs.declared.StepAnswer.{StepAnswer}
-use Rattle.rules.specs.declared.RunAnswer.{RunAnswer}
 use Rattle.rules.specs.Basics.{at}
 use Rattle.rules.specs.Bus.{Chart, charts}
 use Rattle.rules.specs.Answers.{stepWord, runWords, restartWord, appendWord, verdictWord}

@@ -3,7 +3,7 @@ use Prim.Native.Nat.{ℕ, zero, suc, _+_, _≤_}
 use native.Mathlib.Omega.{arith}
 use mathlib.Core.Path.{_≡_, refl, ap}
 use mathlib.Core.Bool.{Bool, true, false}
-use mathlib.Core.List.{List, [], _∷_, _++_}
+use mathlib.Core.List.{_++_}
 use lib.ListN.{length}
 use Rattle.rules.specs.Basics.{if_then_else_}
 use Rattle.rules.specs.Cycles.{Bank, Cycles, done, read, write, _>>=_, Device, Access, Ran, listed, run}

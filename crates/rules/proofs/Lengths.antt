@@ -1,5 +1,5 @@
 -- Every step makes at most 7 accesses, and one whose opcode is defined at least 2: 56 bytes suffice.
-use Prim.Native.Nat.{ℕ, zero, suc, _+_, _/_, _≤_}
+use Prim.Native.Nat.{ℕ, suc, _+_, _/_, _≤_}
 use native.Mathlib.Omega.{arith}
 use mathlib.Core.Path.{_≡_, refl}
 use mathlib.Core.Bool.{Bool, true, false, _&&_, false≢true}
@@ -14,7 +14,7 @@ use Rattle.rules.specs.declared.Mode.the-variants.{Immediate, Zero, Zero
 use Rattle.rules.specs.declared.Instruction.{Instruction}
 use Rattle.rules.specs.declared.Instruction.the-variants.{Read, Store, Change, Accumulator, Implied, Branch, Jump, JumpIndirect, Jsr, Rts, Rti, Brk, Php, Plp, Pha, Pla, Txs, Cli}
 use Rattle.rules.specs.Basics.{if_then_else_, address}
-use Rattle.rules.specs.Cycles.{Bank, execution, indirect, done, _>>=_, Device, run}
+use Rattle.rules.specs.Cycles.{Bank, execution, indirect, _>>=_, Device, run}
 use Rattle.rules.specs.Opcodes.{Entry, undefined, alone, byte, word, late, Row, rows, among, decode, isDefined}
 use Rattle.rules.specs.Addressing.{load, place, pointer, zeroIndexed, indexedPointer, indexed, crosses, loadIndexed}
 use Rattle.rules.specs.Operations.{branchTo, enter, push, pull, jsr, rts, rti, brk, jumpIndirect, perform, operate, instruction, taken, target, next}

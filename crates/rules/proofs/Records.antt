@@ -1,6 +1,6 @@
 -- A well-formed record read and written again is the same sixteen bytes, and a state written and read again is the same state. Every state that
 -- a step writes is well formed.
-use Prim.Native.Nat.{ℕ, zero, suc, _+_, _*_, _/_, _%_, _<_, _≤_}
+use Prim.Native.Nat.{ℕ, zero, suc, _+_, _/_, _%_, _<_, _≤_}
 use native.Mathlib.Omega.{arith}
 use mathlib.Core.Path.{_≡_, refl, sym, ap, _∙_}
 use mathlib.Core.Bool.{Bool, true, false, not, _&&_, _||_, false≢true}
@@ -16,7 +16,7 @@ use Rattle.rules.specs.Basics.{if_then_else_, bit, at, address}
 use Rattle.rules.specs.Cycles.{Bank}
 use Rattle.rules.specs.Flags.{byteOf, flagsOf}
 use Rattle.rules.specs.Interrupts.{Event, res, nmi, irq, execute, nmiOf, cyclesOf}
-use Rattle.rules.specs.Bus.{is6502, is6508, is6509, Memory, World, world, narrow, Cell, first, second, byte, cellOf, imageAt, kept, stored, isProtected, resetBus, board}
+use Rattle.rules.specs.Bus.{is6502, is6508, is6509, Memory, World, world, narrow, first, second, byte, cellOf, imageAt, kept, stored, isProtected, resetBus, board}
 use Rattle.rules.specs.Record.{long, stateOf, recordOf, wellFormed, partFits, flagsFit, registerFits, levelFits, pagesFit}
 use Rattle.rules.specs.Step.{linesFit, busAt, ranOf}
 use Rattle.rules.proofs.Tests.{and-left, and-right, all, all-at, if-case}

@@ -50,14 +50,14 @@ module _ {M : Type 0} (memory : Memory M) where
     moved-sound : Sound (moved memory s o n)
     moved-sound =
         record {
-          within = omega (arith, moved-size, done .room, length-drop i (s .accesses), q .within);
+          within = omega (arith, moved-size, done .least, done .room, length-drop i (s .accesses), q .within);
           record-size = done .record-size;
           record-formed = done .record-formed;
         }
 
     moved-kept : (r : Outcome RunAnswer M) → Kept (moved memory s o n) r → Kept s r
     moved-kept r k =
-        let j = 8 * (s .answer .listed + n) in
+        let j = 8 * moved memory s o n .answer .listed in
         let h : i ≤ j = omega arith in
         record {
           size = k .size ∙ moved-size;

@@ -1,11 +1,10 @@
 -- The laws of a step.
-use Prim.Native.Nat.{ℕ, _+_, _*_, _/_, _%_, _≤_}
+use Prim.Native.Nat.{ℕ, _+_, _*_, _%_, _≤_}
 use native.Mathlib.Omega.{arith}
 use mathlib.Core.Path.{_≡_, refl, ap, subst, _∙_}
 use mathlib.Core.Bool.{true}
-use mathlib.Core.List.{List, [], _∷_, _++_}
+use mathlib.Core.List.{List, [], _∷_}
 use borrow.Author.Tests.{leb-true}
-use lib.Dec.{leb}
 use lib.ListN.{length, take, drop, length-append, length-drop}
 use lib.Seq.{take-at, drop-at}
 use Rattle.rules.specs.declared.State.{State}
@@ -15,13 +14,13 @@ use Rattle.rules.specs.declared.StepAnswer.the-variants.{Stepped, Refuse
 use Rattle.rules.specs.Basics.{at}
 use Rattle.rules.specs.Cycles.{Access}
 use Rattle.rules.specs.Interrupts.{Event, cyclesOf}
-use Rattle.rules.specs.Bus.{Memory, world, board, bytesOf, listOf}
+use Rattle.rules.specs.Bus.{Memory, world, board, listOf}
 use Rattle.rules.specs.Record.{cyclesIn, stateOf, recordOf, wellFormed}
 use Rattle.rules.specs.Step.{Outcome, linesFit, front, busAt, ranOf, stateAfter, finished, canStep, stateNow, eventNow, refused, stepTests, step}
 use Rattle.rules.proofs.Tests.{Hold, tested-case}
 use Rattle.rules.proofs.Cycles.{most-length}
 use Rattle.rules.proofs.Lengths.{at-most-seven, two-least}
-use Rattle.rules.proofs.Records.{formed, Fit, ran-fit, level-fits, state-formed}
+use Rattle.rules.proofs.Records.{formed, ran-fit, level-fits, state-formed}
 
 -- eight bytes an access
 pub list-length : (l : List Access) → length (listOf l) ≡ 8 * length l
@@ -81,12 +80,11 @@ module _ {M : Type 0} (memory : Memory M) (r : List ℕ) (m : M) (lines pins : �
       let size = list-length trace in
       let well : wellFormed r ≡ true = search in
       let fit : linesFit (at r 0) lines pins ≡ true = search in
-      let room : leb 56 (length buffer) ≡ true = search in
       let can : canStep memory e u m ≡ true = search in
       let f = formed r well in
       let g = ran-fit memory (at r 0) (at r 11) e u m (record { part = refl; protected = refl; first = f .first; second = f .second }) in
       let seven = most-length (board memory) 7 (cyclesOf e (u .cpu)) (world (busAt e (u .bus)) m) (at-most-seven e (u .cpu)) in
-      let space = leb-true 56 (length buffer) room in
+      let space : 56 ≤ length buffer = omega (arith, leb-true) in
       record {
         count = refl;
         least = two-least memory e u m can;

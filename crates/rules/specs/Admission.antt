@@ -114,9 +114,13 @@ module _ {M : Type 0} (memory : Memory M) (m : M) (c : ℕ) (map : List ℕ) whe
     abbrev pub next : ℕ
     next = sum16 (mark .address) (sizeOf entry)
 
-    -- p "is marked with the same kind", this height, and a need that with d more is at most e
+    -- p is marked with this kind and height, and a need that with d more is at most e
+    abbrev pub leadsTo : ℕ → ℕ → ℕ → ℕ → ℕ → Test
+    leadsTo p kind height d e = Successor i unless (marked map λ s. isMark p kind height s && leb (s .need + d) e)
+
+    -- "Each successor .. is marked with the same kind"
     abbrev pub goesTo : ℕ → ℕ → ℕ → ℕ → Test
-    goesTo p height d e = Successor i unless (marked map λ s. isMark p (mark .kind) height s && leb (s .need + d) e)
+    goesTo p = leadsTo p (mark .kind)
 
     -- "all others equal height, need at most this one"
     abbrev pub goesOn : ℕ → Test
@@ -132,8 +136,7 @@ module _ {M : Type 0} (memory : Memory M) (m : M) (c : ℕ) (map : List ℕ) whe
 
     -- "JSR's target is also a routine of height 0, its need + 2 at most this need."
     abbrev pub calls : Test
-    calls =
-        Successor i unless (marked map λ s. isMark (wordAt (sum16 (mark .address) 1)) routine 0 s && leb (s .need + 2) (mark .need))
+    calls = leadsTo (wordAt (sum16 (mark .address) 1)) routine 0 2 (mark .need)
 
     -- "TXS: main, height 0. CLI: main. RTS: routine, height 0. RTI: handler, height 0. PLA: height at least 1."
     abbrev pub isAtZero : ℕ → Bool
