@@ -4,15 +4,11 @@ use mathlib.Core.Bool.{Bool, not, _&&_}
 use lib.Dec.{ltb, leb, eqb}
 use lib.Bits.{bitAnd}
 use Rattle.rules.specs.declared.Flags.{Flags}
+use Rattle.rules.specs.declared.Result.{Result}
 use Rattle.rules.specs.declared.Changing.{Changing}
 use Rattle.rules.specs.declared.Changing.the-variants.{Asl, Rol, Lsr, Ror, Dec, Inc}
 use Rattle.rules.specs.Basics.{if_then_else_, bit, bitOf, sum8}
 use Rattle.rules.specs.Flags.{nz, withV, withC}
-
--- a byte, and the flags with it
-pub record Result : Type 0 where
-  pub value : ℕ
-  pub flags : Flags
 
 -- a byte read as signed, plus 128
 abbrev pub signed : ℕ → ℕ

@@ -4,6 +4,7 @@ use mathlib.Core.Bool.{Bool, true, false, not}
 use lib.Dec.{eqb}
 use lib.Bits.{bitAnd, bitOr, bitXor}
 use Rattle.rules.specs.declared.Flags.{Flags}
+use Rattle.rules.specs.declared.Result.{Result}
 use Rattle.rules.specs.declared.Cpu.{Cpu}
 use Rattle.rules.specs.declared.Reading.{Reading}
 use Rattle.rules.specs.declared.Reading.the-variants.{Ora, And, Eor, Adc, Lda, Cmp, Sbc, Ldx, Ldy, Cpx, Cpy, Bit}
@@ -18,7 +19,7 @@ use Rattle.rules.specs.declared.Instruction.the-variants.{Read, Store, C
 use Rattle.rules.specs.Basics.{if_then_else_, address, sum8, sum16}
 use Rattle.rules.specs.Cycles.{Cycles, done, write, _>>=_, _>>_}
 use Rattle.rules.specs.Flags.{byteOf4, flagsOf, nz, withV, withD, withI, withC}
-use Rattle.rules.specs.Arithmetic.{Result, adc, sbc, compare, bitTest, changed}
+use Rattle.rules.specs.Arithmetic.{adc, sbc, compare, bitTest, changed}
 use Rattle.rules.specs.Opcodes.{Entry, undefined, alone, byte, word, late, decode}
 use Rattle.rules.specs.Addressing.{get, put, load, place, bankOf}
 

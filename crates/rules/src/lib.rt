@@ -10,6 +10,12 @@ pub struct Flags {
     pub c: bool,
 }
 
+// A byte, and the flags with it.
+pub struct Result {
+    pub value: u8,
+    pub flags: Flags,
+}
+
 // The processor's registers.
 pub struct Cpu {
     pub a: u8,

@@ -1,0 +1,62 @@
+-- How functions that follow a tree are put together.
+use Prim.Native.Nat.{ℕ, suc, _+_, _*_}
+use native.Mathlib.Omega.{arith}
+use mathlib.Core.Path.{_≡_, refl, sym, ap, _∙_}
+use mathlib.Core.List.{List, [], _∷_, _++_}
+use lib.ListN.{length, set, length-append}
+use lib.Seq.{sets}
+use Rattle.rules.specs.declared.Bus.{Bus}
+use Rattle.rules.specs.Cycles.{Bank, Cycles, done, read, write, _>>=_, Access, Ran, run}
+use Rattle.rules.specs.Bus.{World, world, images, look, stored, selected, board, bytesOf, listOf}
+use Rattle.rules.proofs.Cycles.{run-bind, joined}
+use Rattle.bus.specs.Goes.{Goes}
+
+sets-append : (xs ys l : List ℕ) (p : ℕ) → sets l p (xs ++ ys) ≡ sets (sets l p xs) (p + length xs) ys
+sets-append [] ys l p = let e : p + 0 ≡ p = omega arith in rw e
+sets-append (x ∷ xs) ys l p =
+    let e : p + suc (length xs) ≡ suc p + length xs = omega arith in rw e (sets-append xs ys (set l p x) (suc p))
+
+list-append : (xs ys : List Access) → listOf (xs ++ ys) ≡ listOf xs ++ listOf ys
+unfolding listOf
+list-append [] ys = refl
+list-append (x ∷ xs) ys = ap (λ (l : List ℕ). bytesOf x ++ l) (list-append xs ys)
+
+list-long : (xs : List Access) → length (listOf xs) ≡ 8 * length xs
+unfolding listOf
+list-long [] = refl
+list-long (x ∷ xs) = omega (arith, list-long xs)
+
+-- two lists of accesses, one behind the other
+entered : (xs ys : List Access) (l : List ℕ) (k : ℕ) →
+    sets l (8 * k) (listOf (xs ++ ys)) ≡ sets (sets l (8 * k) (listOf xs)) (8 * (k + length xs)) (listOf ys)
+entered xs ys l k =
+    let e : 8 * (k + length xs) ≡ 8 * k + 8 * length xs = omega arith in
+    rw (list-append xs ys, sets-append (listOf xs) (listOf ys) l (8 * k), list-long xs, e)
+
+pub ended : {A : Type 0} {a : A} {k : ℕ} {u : Bus} {i l : List ℕ} → Goes (done a) k u i l a k u i l
+unfolding run listOf
+ended {k = k} = record { made = []; ran = refl; count = omega arith; listed = refl }
+
+pub then-call : {A B : Type 0} {t : Cycles A} (f : A → Cycles B) {k n m : ℕ} {u u′ u″ : Bus} {i l i′ l′ i″ l″ : List ℕ} {a : A} {b : B} →
+    Goes t k u i l a n u′ i′ l′ → Goes (f a) n u′ i′ l′ b m u″ i″ l″ → Goes (t >>= f) k u i l b m u″ i″ l″
+then-call {t = t} f {k = k} {u = u} {i = i} {l = l} d e =
+    record {
+      made = d .made ++ e .made;
+      ran = run-bind (board images) t f (world u i) ∙ (rw (d .ran) (rw (e .ran)));
+      count = rw (length-append (d .made) (e .made)) (omega (arith, d .count, e .count));
+      listed = entered (d .made) (e .made) l k ∙ (rw (d .count, d .listed) (e .listed));
+    }
+
+-- what a read and a write of the bus say
+pub reads : (κ : Bank) (p v b k : ℕ) (u : Bus) (i l l′ : List ℕ) → v ≡ look images (world u i) κ p → b ≡ selected u κ →
+    l′ ≡ sets l (8 * k) (bytesOf (record { address = p; bank = b; value = v; kind = 0 })) → Goes (read κ p done) k u i l v (k + 1) u i l′
+unfolding run listOf
+reads κ p v b k u i l l′ e d h =
+    record { made = record { address = p; bank = b; value = v; kind = 0 } ∷ []; ran = rw (e, d); count = omega arith; listed = sym h }
+
+pub writes : (κ : Bank) (p v b k : ℕ) (u u′ : Bus) (i i′ l l′ : List ℕ) → stored images (world u i) κ p v ≡ world u′ i′ → b ≡ selected u κ →
+    l′ ≡ sets l (8 * k) (bytesOf (record { address = p; bank = b; value = v; kind = 1 })) →
+    Goes {A = Unit {0}} (write κ p v (done tt)) k u i l tt (k + 1) u′ i′ l′
+unfolding run listOf
+writes κ p v b k u u′ i i′ l l′ e d h =
+    record { made = record { address = p; bank = b; value = v; kind = 1 } ∷ []; ran = rw (e, d); count = omega arith; listed = sym h }

@@ -1,0 +1,2 @@
+pub mod Wiring
+pub mod Goes

@@ -1,0 +1,229 @@
+// The bus of the three parts: one access at a time, each listed at its cycle's place. The state is the record's sixteen bytes.
+
+ghost use Prim.Native.Nat.{_+_, _-_, _*_, _%_, _≤_, _<_};
+ghost use mathlib.Core.Path.{_≡_};
+ghost use lib.ListN.{length};
+ghost use lib.Bits.{bitAnd, bitOr};
+ghost use lib.Seq.{sets};
+ghost use Rattle.rules.specs.declared.State.{State};
+ghost use Rattle.rules.specs.declared.Bus.{Bus};
+ghost use Rattle.rules.specs.Cycles.{Bank, execution, indirect, Cycles, done, read, write, Access};
+ghost use Rattle.rules.specs.Bus.{World, world, images, look, stored, bytesOf, narrow};
+ghost use Rattle.rules.specs.Record.{recordOf};
+ghost use Rattle.bus.specs.Wiring.{plainOf, bankOf, firstByteOf, lowHeld, registered, putAt, Sound, Wired, Stands, Ready};
+ghost use Rattle.bus.specs.Goes.{Goes, moved, Writes};
+
+// How a step's accesses reach the image. Addresses below `plain` have a rule of the part's own, those from `top` on are protected; `base` is
+// where the bank begins in the image.
+pub struct Wiring {
+    pub pins: u8,
+    pub banks: u8,
+    pub bank: u8,
+    pub plain: u16,
+    pub top: u32,
+    pub base: usize,
+}
+
+// Lists one access, "8 bytes: address low, high, selected bank before the modulo, value, 0 read or 1 write, three zeros".
+fn note(list: &mut [u8], k: usize, a: u16, bank: u8, v: u8, kind: u8)
+    requires { ⌜ (k < 7) × (56 ≤ length (now list)) ⌝ }
+    ensures { λ r. ⌜ now (list .exit) ≡ sets (now (list .entry)) (8 * k) (bytesOf (record { address = a; bank = bank; value = v; kind = kind })) ⌝ }
+{
+    let at = 8 * k;
+    list[at] = (a % 256) as u8;
+    list[at + 1] = (a / 256) as u8;
+    list[at + 2] = bank;
+    list[at + 3] = v;
+    list[at + 4] = kind;
+    list[at + 5] = 0;
+    list[at + 6] = 0;
+    list[at + 7] = 0;
+}
+
+// The 6508's port: "the output bit where direction is 1, the pin where it is 0".
+fn port(direction: u8, output: u8, pins: u8) -> u8
+    ensures { λ r. ⌜ r ≡ bitOr (bitAnd output direction) (bitAnd pins (255 - direction)) ⌝ }
+{
+    (output & direction) | (pins & (255 - direction))
+}
+
+// What an address below `plain` holds: a register, the port, or the 6508's first page.
+fn low_held(state: &[u8], pins: u8, image: &[u8], a: u16) -> u8
+    requires { ⌜ (length (now state) ≡ 16) × (65536 ≤ length (now image)) ⌝ }
+    ensures { λ r. ⌜ ((s : State) → now (state .entry) ≡ recordOf s → pins ≡ s .bus .pins → r ≡ lowHeld (s .bus) (now (image .entry)) a) ⌝ }
+{
+    if a == 0 {
+        return state[8];
+    }
+    if a == 1 {
+        if state[0] == 8 {
+            return port(state[8], state[9], pins);
+        }
+        return state[9];
+    }
+    image[(a % 256) as usize]
+}
+
+// What a read would find, unlisted.
+pub fn look(state: &[u8], w: Wiring, image: &[u8], a: u16) -> u8
+    requires { ⌜ Ready w (length (now state)) (length (now image)) 56 ⌝ }
+    ensures { λ r. ⌜ ((s : State) (κ : Bank) → Stands κ s (now (state .entry)) w → r ≡ look images (world (s .bus) (now (image .entry))) κ a) ⌝ }
+{
+    if a < w.plain {
+        return low_held(state, w.pins, image, a);
+    }
+    image[w.base + a as usize]
+}
+
+// One read cycle, the step's k-th.
+pub fn read(state: &[u8], w: Wiring, image: &[u8], list: &mut [u8], k: usize, a: u16) -> u8
+    requires { ⌜ (k < 7) × Ready w (length (now state)) (length (now image)) (length (now list)) ⌝ }
+    ensures { λ r. ⌜ ((s : State) (κ : Bank) → Stands κ s (now (state .entry)) w → Goes (read κ a done) k (s .bus) (now (image .entry)) (now (list .entry)) r (k + 1) (s .bus) (now (image .entry)) (now (list .exit))) ⌝ }
+{
+    let v = look(state, w, image, a);
+    note(list, k, a, w.bank, v, 0);
+    v
+}
+
+// What a register of the part keeps of a value: "four bits" on the 6509.
+fn kept(part: u8, v: u8) -> u8
+    ensures { λ r. ⌜ r ≡ narrow part v ⌝ }
+{
+    if part == 9 { v % 16 } else { v }
+}
+
+fn set_register(state: &mut [u8], a: u16, v: u8)
+    requires { ⌜ length (now state) ≡ 16 ⌝ }
+    ensures { λ r. ⌜ ((s : State) → now (state .entry) ≡ recordOf s → now (state .exit) ≡ recordOf (moved (s .cpu) (registered (s .bus) a v) s)) ⌝ }
+{
+    let part = state[0];
+    if a == 0 {
+        state[8] = kept(part, v);
+        return;
+    }
+    state[9] = kept(part, v);
+}
+
+// "a write there is listed and changes nothing": in a protected page.
+fn put(w: Wiring, image: &mut [u8], a: u16, v: u8)
+    requires { ⌜ (65536 ≤ length (now image)) × (w .base + 65536 ≤ length (now image)) ⌝ }
+    ensures { λ r. ⌜ now (image .exit) ≡ putAt w (now (image .entry)) a v ⌝ }
+{
+    if (a as u32) < w.top {
+        if a < w.plain {
+            image[(a % 256) as usize] = v;
+            return;
+        }
+        image[w.base + a as usize] = v;
+    }
+}
+
+// One write cycle, the step's k-th.
+pub fn write(
+    state: &mut [u8],
+    w: Wiring,
+    image: &mut [u8],
+    list: &mut [u8],
+    k: usize,
+    a: u16,
+    v: u8,
+)
+    requires { ⌜ (k < 7) × Ready w (length (now state)) (length (now image)) (length (now list)) ⌝ }
+    ensures { λ r. ⌜ ((s : State) (κ : Bank) → Stands κ s (now (state .entry)) w → Writes κ a v k s (now (image .entry)) (now (list .entry)) (now (state .exit)) (now (image .exit)) (now (list .exit))) ⌝ }
+{
+    note(list, k, a, w.bank, v, 1);
+    if w.plain <= a {
+        put(w, image, a, v);
+        return;
+    }
+    if a < 2 {
+        set_register(state, a, v);
+        return;
+    }
+    put(w, image, a, v);
+}
+
+// One write cycle at the stack, where no part has a register.
+pub fn push(w: Wiring, image: &mut [u8], list: &mut [u8], k: usize, s: u8, v: u8)
+    requires { ⌜ (k < 7) × Ready w 16 (length (now image)) (length (now list)) ⌝ }
+    ensures { λ r. ⌜ ((u : Bus) (κ : Bank) → Wired κ w u → Goes {A = Unit {0}} (write κ (256 + s) v (done tt)) k u (now (image .entry)) (now (list .entry)) tt (k + 1) u (now (image .exit)) (now (list .exit))) ⌝ }
+{
+    let a = 256 + s as u16;
+    note(list, k, a, w.bank, v, 1);
+    put(w, image, a, v);
+}
+
+fn plain_of(part: u8) -> u16
+    ensures { λ r. ⌜ r ≡ plainOf part ⌝ }
+{
+    if part == 2 {
+        return 0;
+    }
+    if part == 8 {
+        return 512;
+    }
+    2
+}
+
+// "selected bank before the modulo (0 unless 6509)"
+fn bank_of(part: u8, register: u8) -> u8
+    ensures { λ r. ⌜ r ≡ bankOf part register ⌝ }
+{
+    if part == 9 { register } else { 0 }
+}
+
+fn wrapped(bank: u8, banks: u8) -> u8
+    requires { ⌜ 1 ≤ banks ⌝ }
+    ensures { λ r. ⌜ (r ≡ bank % banks) × (r < banks) ⌝ }
+{
+    bank % banks
+}
+
+// "bank b is bank b modulo k of the image"
+fn base_of(part: u8, register: u8, banks: u8) -> usize
+    requires { ⌜ 1 ≤ banks ⌝ }
+    ensures { λ r. ⌜ (r ≡ firstByteOf part register banks) × (r + 65536 ≤ banks * 65536) ⌝ }
+{
+    if part == 9 {
+        return wrapped(register, banks) as usize * 65536;
+    }
+    0
+}
+
+// "The top c pages are write-protected"
+fn top_of(pages: u8) -> u32
+    ensures { λ r. ⌜ r + 256 * pages ≡ 65536 ⌝ }
+{
+    65536 - 256 * pages as u32
+}
+
+// How a step's accesses go, in the execution bank.
+pub fn wire(state: &[u8], pins: u8, banks: u8) -> Wiring
+    requires { ⌜ (length (now state) ≡ 16) × (1 ≤ banks) ⌝ }
+    ensures { λ r. ⌜ ((r .base + 65536 ≤ banks * 65536) × (r .banks ≡ banks)) × ((s : State) → now (state .entry) ≡ recordOf s → Sound (s .bus) → s .bus .pins ≡ pins → s .bus .banks ≡ banks → Stands execution s (now (state .entry)) r) ⌝ }
+{
+    let part = state[0];
+    Wiring {
+        pins: pins,
+        banks: banks,
+        bank: bank_of(part, state[8]),
+        plain: plain_of(part),
+        top: top_of(state[11]),
+        base: base_of(part, state[8], banks),
+    }
+}
+
+// The same in the indirect bank.
+pub fn indirect(state: &[u8], w: Wiring) -> Wiring
+    requires { ⌜ (length (now state) ≡ 16) × (1 ≤ w .banks) ⌝ }
+    ensures { λ r. ⌜ ((r .base + 65536 ≤ w .banks * 65536) × (r .banks ≡ w .banks)) × ((s : State) → Stands execution s (now (state .entry)) w → Stands indirect s (now (state .entry)) r) ⌝ }
+{
+    Wiring {
+        pins: w.pins,
+        banks: w.banks,
+        bank: bank_of(state[0], state[9]),
+        plain: w.plain,
+        top: w.top,
+        base: base_of(state[0], state[9], w.banks),
+    }
+}
