@@ -60,3 +60,21 @@ pub writes : (κ : Bank) (p v b k : ℕ) (u u′ : Bus) (i i′ l l′ : List �
 unfolding run listOf
 writes κ p v b k u u′ i i′ l l′ e d h =
     record { made = record { address = p; bank = b; value = v; kind = 1 } ∷ []; ran = rw (e, d); count = omega arith; listed = sym h }
+
+pub then-read : {A : Type 0} {κ : Bank} {p : ℕ} (f : ℕ → Cycles A) {k n m : ℕ} {u u′ u″ : Bus} {i l i′ l′ i″ l″ : List ℕ} {v : ℕ} {a : A} →
+    Goes (read κ p done) k u i l v n u′ i′ l′ → Goes (f v) n u′ i′ l′ a m u″ i″ l″ → Goes (read κ p f) k u i l a m u″ i″ l″
+unfolding _>>=_
+then-read f d e = then-call f d e
+
+pub then-write : {A : Type 0} {κ : Bank} {p v : ℕ} (t : Cycles A) {k n m : ℕ} {u u′ u″ : Bus} {i l i′ l′ i″ l″ : List ℕ} {a : A} →
+    Goes {A = Unit {0}} (write κ p v (done tt)) k u i l tt n u′ i′ l′ → Goes t n u′ i′ l′ a m u″ i″ l″ → Goes (write κ p v t) k u i l a m u″ i″ l″
+unfolding _>>=_
+then-write t d e = then-call (λ x. t) d e
+
+pub counted : {A : Type 0} {t : Cycles A} {k n m : ℕ} {u u′ : Bus} {i l i′ l′ : List ℕ} {a : A} →
+    Goes t k u i l a n u′ i′ l′ → n ≡ m → Goes t k u i l a m u′ i′ l′
+counted d e = record { made = d .made; ran = d .ran; count = d .count ∙ e; listed = d .listed }
+
+pub valued : {A : Type 0} {t : Cycles A} {k n : ℕ} {u u′ : Bus} {i l i′ l′ : List ℕ} {a b : A} →
+    Goes t k u i l a n u′ i′ l′ → a ≡ b → Goes t k u i l b n u′ i′ l′
+valued d e = record { made = d .made; ran = d .ran ∙ (rw e); count = d .count; listed = d .listed }

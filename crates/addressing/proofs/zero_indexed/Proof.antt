@@ -1,0 +1,13 @@
+use Rattle.bus.proofs.Laws.{ended, then-read, then-call, counted, valued}
+use Rattle.rules.specs.Cycles.{execution, _>>=_}
+use Rattle.rules.specs.Addressing.{zeroIndexed}
+use borrow.Author.Needs.{needs}
+use Rattle.addressing.proofs.zero_indexed.Statement.{statement}
+use Rattle.addressing.proofs.zero_indexed.Tie as tie
+
+returns : tie.Need-returns
+unfolding zeroIndexed _>>=_
+returns c = λ s h. rw (c .wrapping-add-u8 .ensures) (then-read _ (c .before .before .before .read .ensures s execution h) ended)
+
+pub zero-indexed-spec : {M : Type 1} → statement M
+zero-indexed-spec = tie.close (tie.spec (λ c κs. search needs) (λ c κs. search needs) (λ c. search needs) returns)

@@ -1,0 +1,219 @@
+// The accesses of each addressing mode, after the opcode and the operand were fetched. Each has its number in the step: a read's fifth argument.
+
+use bus::Wiring;
+use rules::Mode;
+ghost use Prim.Native.Nat.{_+_, _*_, _≤_, _<_};
+ghost use mathlib.Core.Path.{_≡_};
+ghost use lib.ListN.{length};
+ghost use Rattle.rules.specs.declared.State.{State};
+ghost use Rattle.rules.specs.Basics.{sum8, sum16};
+ghost use Rattle.rules.specs.Cycles.{Bank, execution};
+ghost use Rattle.rules.specs.Addressing.{oldPage, pointer, zeroIndexed, indexedPointer, loadIndexed, indexed, load, place};
+ghost use Rattle.bus.specs.Wiring.{Stands, Ready};
+ghost use Rattle.bus.specs.Goes.{Goes};
+ghost use Rattle.addressing.specs.Start.{fetchedOf, madeBy};
+
+const X: usize = 2;
+
+const Y: usize = 3;
+
+// A byte that was found, and the accesses made so far.
+pub struct Loaded {
+    pub value: u8,
+    pub count: usize,
+}
+
+// An address that was found, and the accesses made so far.
+pub struct Spot {
+    pub address: u16,
+    pub count: usize,
+}
+
+fn join(low: u8, high: u8) -> u16
+    ensures { λ r. ⌜ r ≡ high * 256 + low ⌝ }
+{
+    high as u16 * 256 + low as u16
+}
+
+// "the old page with the summed low byte"
+fn old_page(a: u16, i: u8) -> u16
+    ensures { λ r. ⌜ r ≡ oldPage a i ⌝ }
+{
+    join(
+        std::num::wrapping_add_u8((a % 256) as u8, i),
+        (a / 256) as u8,
+    )
+}
+
+// "pointer low, high (both in page zero)"
+fn pointer(state: &[u8], w: Wiring, image: &[u8], list: &mut [u8], k: usize, z: u8) -> u16
+    requires { ⌜ (k < 6) × Ready w (length (now state)) (length (now image)) (length (now list)) ⌝ }
+    ensures { λ r. ⌜ ((s : State) → Stands execution s (now (state .entry)) w → Goes (pointer z) k (s .bus) (now (image .entry)) (now (list .entry)) r (k + 2) (s .bus) (now (image .entry)) (now (list .exit))) ⌝ }
+{
+    let next = std::num::wrapping_add_u8(z, 1) as u16;
+    let low = bus::read(state, w, image, list, k, z as u16);
+    let high = bus::read(state, w, image, list, k + 1, next);
+    join(low, high)
+}
+
+// "read the unindexed zero-page address"
+fn zero_indexed(state: &[u8], w: Wiring, image: &[u8], list: &mut [u8], z: u8, i: u8) -> u8
+    requires { ⌜ Ready w (length (now state)) (length (now image)) (length (now list)) ⌝ }
+    ensures { λ r. ⌜ ((s : State) → Stands execution s (now (state .entry)) w → Goes (zeroIndexed z i) 2 (s .bus) (now (image .entry)) (now (list .entry)) r 3 (s .bus) (now (image .entry)) (now (list .exit))) ⌝ }
+{
+    bus::read(state, w, image, list, 2, z as u16);
+    std::num::wrapping_add_u8(z, i)
+}
+
+// (z,X): "read unindexed, pointer low, high"
+fn indexed_pointer(state: &[u8], w: Wiring, image: &[u8], list: &mut [u8], z: u8, i: u8) -> u16
+    requires { ⌜ Ready w (length (now state)) (length (now image)) (length (now list)) ⌝ }
+    ensures { λ r. ⌜ ((s : State) → Stands execution s (now (state .entry)) w → Goes (indexedPointer z i) 2 (s .bus) (now (image .entry)) (now (list .entry)) r 5 (s .bus) (now (image .entry)) (now (list .exit))) ⌝ }
+{
+    bus::read(state, w, image, list, 2, z as u16);
+    pointer(state, w, image, list, 3, std::num::wrapping_add_u8(z, i))
+}
+
+// "read at the old page with the summed low byte; then the data at the full sum"
+fn indexed(state: &[u8], w: Wiring, image: &[u8], list: &mut [u8], k: usize, a: u16, i: u8) -> u16
+    requires { ⌜ (k < 7) × Ready w (length (now state)) (length (now image)) (length (now list)) ⌝ }
+    ensures { λ r. ⌜ ((s : State) (κ : Bank) → Stands κ s (now (state .entry)) w → Goes (indexed κ a i) k (s .bus) (now (image .entry)) (now (list .entry)) r (k + 1) (s .bus) (now (image .entry)) (now (list .exit))) ⌝ }
+{
+    bus::read(state, w, image, list, k, old_page(a, i));
+    std::num::wrapping_add_u16(a, i as u16)
+}
+
+// "A load stops at that first read if no page was crossed"
+fn load_indexed(
+    state: &[u8],
+    w: Wiring,
+    image: &[u8],
+    list: &mut [u8],
+    k: usize,
+    a: u16,
+    i: u8,
+) -> Loaded
+    requires { ⌜ (k < 6) × Ready w (length (now state)) (length (now image)) (length (now list)) ⌝ }
+    ensures { λ r. ⌜ ((s : State) (κ : Bank) → Stands κ s (now (state .entry)) w → Goes (loadIndexed κ a i) k (s .bus) (now (image .entry)) (now (list .entry)) (r .value) (r .count) (s .bus) (now (image .entry)) (now (list .exit))) ⌝ }
+{
+    let near = old_page(a, i);
+    let sum = std::num::wrapping_add_u16(a, i as u16);
+    let first = bus::read(state, w, image, list, k, near);
+    if sum / 256 == a / 256 {
+        return Loaded {
+            value: first,
+            count: k + 1,
+        };
+    }
+    let second = bus::read(state, w, image, list, k + 1, sum);
+    Loaded {
+        value: second,
+        count: k + 2,
+    }
+}
+
+// The byte that a load finds.
+pub fn load(m: Mode, state: &[u8], w: Wiring, image: &[u8], list: &mut [u8]) -> Loaded
+    requires { ⌜ Ready w (length (now state)) (length (now image)) (length (now list)) ⌝ }
+    ensures { λ r. ⌜ ((s : State) → Stands execution s (now (state .entry)) w → Goes (load (s .cpu) m) (fetchedOf m) (s .bus) (now (image .entry)) (now (list .entry)) (r .value) (r .count) (s .bus) (now (image .entry)) (now (list .exit))) ⌝ }
+{
+    match m {
+        Mode::Immediate(v) => Loaded { value: v, count: 2 },
+        Mode::Zero(z) => Loaded {
+            value: bus::read(state, w, image, list, 2, z as u16),
+            count: 3,
+        },
+        Mode::ZeroX(z) => {
+            let at = zero_indexed(state, w, image, list, z, state[X]);
+            Loaded {
+                value: bus::read(state, w, image, list, 3, at as u16),
+                count: 4,
+            }
+        }
+        Mode::ZeroY(z) => {
+            let at = zero_indexed(state, w, image, list, z, state[Y]);
+            Loaded {
+                value: bus::read(state, w, image, list, 3, at as u16),
+                count: 4,
+            }
+        }
+        Mode::Absolute(a) => Loaded {
+            value: bus::read(state, w, image, list, 3, a),
+            count: 4,
+        },
+        Mode::AbsoluteX(a) => load_indexed(state, w, image, list, 3, a, state[X]),
+        Mode::AbsoluteY(a) => load_indexed(state, w, image, list, 3, a, state[Y]),
+        Mode::IndirectX(z) => {
+            let a = indexed_pointer(state, w, image, list, z, state[X]);
+            Loaded {
+                value: bus::read(state, w, image, list, 5, a),
+                count: 6,
+            }
+        }
+        Mode::IndirectY(z) => {
+            let a = pointer(state, w, image, list, 2, z);
+            load_indexed(state, w, image, list, 4, a, state[Y])
+        }
+        Mode::IndirectBankY(z) => {
+            let a = pointer(state, w, image, list, 2, z);
+            let there = bus::indirect(state, w);
+            load_indexed(state, there, image, list, 4, a, state[Y])
+        }
+    }
+}
+
+// The address where a store or a shift/INC/DEC finds its data.
+pub fn place(m: Mode, state: &[u8], w: Wiring, image: &[u8], list: &mut [u8]) -> Spot
+    requires { ⌜ Ready w (length (now state)) (length (now image)) (length (now list)) ⌝ }
+    ensures { λ r. ⌜ (r .count ≤ fetchedOf m + madeBy m) × ((s : State) → Stands execution s (now (state .entry)) w → Goes (place (s .cpu) m) (fetchedOf m) (s .bus) (now (image .entry)) (now (list .entry)) (r .address) (r .count) (s .bus) (now (image .entry)) (now (list .exit))) ⌝ }
+{
+    match m {
+        Mode::Immediate(v) => Spot {
+            address: v as u16,
+            count: 2,
+        },
+        Mode::Zero(z) => Spot {
+            address: z as u16,
+            count: 2,
+        },
+        Mode::ZeroX(z) => Spot {
+            address: zero_indexed(state, w, image, list, z, state[X]) as u16,
+            count: 3,
+        },
+        Mode::ZeroY(z) => Spot {
+            address: zero_indexed(state, w, image, list, z, state[Y]) as u16,
+            count: 3,
+        },
+        Mode::Absolute(a) => Spot {
+            address: a,
+            count: 3,
+        },
+        Mode::AbsoluteX(a) => Spot {
+            address: indexed(state, w, image, list, 3, a, state[X]),
+            count: 4,
+        },
+        Mode::AbsoluteY(a) => Spot {
+            address: indexed(state, w, image, list, 3, a, state[Y]),
+            count: 4,
+        },
+        Mode::IndirectX(z) => Spot {
+            address: indexed_pointer(state, w, image, list, z, state[X]),
+            count: 5,
+        },
+        Mode::IndirectY(z) => {
+            let a = pointer(state, w, image, list, 2, z);
+            Spot {
+                address: indexed(state, w, image, list, 4, a, state[Y]),
+                count: 5,
+            }
+        }
+        Mode::IndirectBankY(z) => {
+            let a = pointer(state, w, image, list, 2, z);
+            let there = bus::indirect(state, w);
+            Spot {
+                address: indexed(state, there, image, list, 4, a, state[Y]),
+                count: 5,
+            }
+        }
+    }
+}
