@@ -9,7 +9,10 @@ use Rattle.rules.specs.declared.Bus.{Bus}
 use Rattle.rules.specs.Cycles.{Bank, Cycles, done, read, write, _>>=_, Access, Ran, run}
 use Rattle.rules.specs.Bus.{World, world, images, look, stored, selected, board, bytesOf, listOf}
 use Rattle.rules.proofs.Cycles.{run-bind, joined}
-use Rattle.bus.specs.Goes.{Goes}
+use Rattle.rules.specs.declared.Cpu.{Cpu}
+use Rattle.rules.specs.declared.State.{State}
+use Rattle.rules.specs.Record.{recordOf}
+use Rattle.bus.specs.Goes.{Goes, Does, moved}
 
 sets-append : (xs ys l : List ℕ) (p : ℕ) → sets l p (xs ++ ys) ≡ sets (sets l p xs) (p + length xs) ys
 sets-append [] ys l p = let e : p + 0 ≡ p = omega arith in rw e
@@ -71,6 +74,10 @@ pub then-write : {A : Type 0} {κ : Bank} {p v : ℕ} (t : Cycles A) {k n m : �
 unfolding _>>=_
 then-write t d e = then-call (λ x. t) d e
 
+pub then-do : {B : Type 0} {t : Cycles (Unit {0})} (w : Cycles B) {k n m : ℕ} {u u′ u″ : Bus} {i l i′ l′ i″ l″ : List ℕ} {b : B} →
+    Goes t k u i l tt n u′ i′ l′ → Goes w n u′ i′ l′ b m u″ i″ l″ → Goes (t >>= λ x. w) k u i l b m u″ i″ l″
+then-do w d e = then-call (λ x. w) d e
+
 pub counted : {A : Type 0} {t : Cycles A} {k n m : ℕ} {u u′ : Bus} {i l i′ l′ : List ℕ} {a : A} →
     Goes t k u i l a n u′ i′ l′ → n ≡ m → Goes t k u i l a m u′ i′ l′
 counted d e = record { made = d .made; ran = d .ran; count = d .count ∙ e; listed = d .listed }
@@ -78,3 +85,8 @@ counted d e = record { made = d .made; ran = d .ran; count = d .count ∙ e; lis
 pub valued : {A : Type 0} {t : Cycles A} {k n : ℕ} {u u′ : Bus} {i l i′ l′ : List ℕ} {a b : A} →
     Goes t k u i l a n u′ i′ l′ → a ≡ b → Goes t k u i l b n u′ i′ l′
 valued d e = record { made = d .made; ran = d .ran ∙ (rw e); count = d .count; listed = d .listed }
+
+-- registers written after accesses that leave the bus as it was
+pub does : {t : Cycles Cpu} {k n : ℕ} (s : State) {i l r′ i′ l′ : List ℕ} {c : Cpu} → r′ ≡ recordOf (moved c (s .bus) s) →
+    Goes t k (s .bus) i l c n (s .bus) i′ l′ → Does t k s i l n r′ i′ l′
+does s {c = c} e g = record { cpu = c; bus = s .bus; bytes = e; goes = g }
