@@ -1,0 +1,192 @@
+-- An instruction as a number, its operand apart: what an entry of the table is. Where there is a mode, the tens are the operation and the
+-- unit is the mode.
+use Prim.Native.Nat.{ℕ, _+_, _-_, _*_, _/_, _%_}
+use mathlib.Core.Bool.{Bool, _&&_}
+use mathlib.Core.List.{List, [], _∷_}
+use lib.Dec.{ltb, leb, eqb}
+use lib.ListN.{getD}
+use Rattle.rules.specs.declared.Mode.{Mode}
+use Rattle.rules.specs.declared.Mode.the-variants.{Immediate, Zero, ZeroX, ZeroY, Absolute, AbsoluteX, AbsoluteY, IndirectX, IndirectY, IndirectBankY}
+use Rattle.rules.specs.declared.Reading.{Reading}
+use Rattle.rules.specs.declared.Reading.the-variants.{Ora, And, Eor, Adc, Lda, Cmp, Sbc, Ldx, Ldy, Cpx, Cpy, Bit}
+use Rattle.rules.specs.declared.Storing.{Storing}
+use Rattle.rules.specs.declared.Storing.the-variants.{Sta, Stx, Sty}
+use Rattle.rules.specs.declared.Changing.{Changing}
+use Rattle.rules.specs.declared.Changing.the-variants.{Asl, Rol, Lsr, Ror, Dec, Inc}
+use Rattle.rules.specs.declared.Condition.{Condition}
+use Rattle.rules.specs.declared.Condition.the-variants.{Bpl, Bmi, Bvc, Bvs, Bcc, Bcs, Bne, Beq}
+use Rattle.rules.specs.declared.Internal.{Internal}
+use Rattle.rules.specs.declared.Internal.the-variants.{Clc, Sec, Sei, Clv, Cld, Sed, Tax, Txa, Tay, Tya, Tsx, Inx, Iny, Dex, Dey, Nop}
+use Rattle.rules.specs.declared.Instruction.{Instruction}
+use Rattle.rules.specs.declared.Instruction.the-variants.{Read, Store, Change, Accumulator, Implied, Branch, Jump, JumpIndirect, Jsr, Rts, Rti, Brk, Php, Plp, Pha, Pla, Txs, Cli}
+use Rattle.rules.specs.Basics.{if_then_else_, address}
+use Rattle.rules.specs.Opcodes.{Entry, undefined, alone, byte, word, late}
+
+abbrev pub modeNumber : Mode → ℕ
+modeNumber (Immediate v) = 0
+modeNumber (Zero v) = 1
+modeNumber (ZeroX v) = 2
+modeNumber (ZeroY v) = 3
+modeNumber (Absolute v) = 4
+modeNumber (AbsoluteX v) = 5
+modeNumber (AbsoluteY v) = 6
+modeNumber (IndirectX v) = 7
+modeNumber (IndirectY v) = 8
+modeNumber (IndirectBankY v) = 9
+
+abbrev pub readingNumber : Reading → ℕ
+readingNumber Ora = 0
+readingNumber And = 1
+readingNumber Eor = 2
+readingNumber Adc = 3
+readingNumber Lda = 4
+readingNumber Cmp = 5
+readingNumber Sbc = 6
+readingNumber Ldx = 7
+readingNumber Ldy = 8
+readingNumber Cpx = 9
+readingNumber Cpy = 10
+readingNumber Bit = 11
+
+abbrev pub storingNumber : Storing → ℕ
+storingNumber Sta = 0
+storingNumber Stx = 1
+storingNumber Sty = 2
+
+abbrev pub changingNumber : Changing → ℕ
+changingNumber Asl = 0
+changingNumber Rol = 1
+changingNumber Lsr = 2
+changingNumber Ror = 3
+changingNumber Dec = 4
+changingNumber Inc = 5
+
+abbrev pub internalNumber : Internal → ℕ
+internalNumber Clc = 0
+internalNumber Sec = 1
+internalNumber Sei = 2
+internalNumber Clv = 3
+internalNumber Cld = 4
+internalNumber Sed = 5
+internalNumber Tax = 6
+internalNumber Txa = 7
+internalNumber Tay = 8
+internalNumber Tya = 9
+internalNumber Tsx = 10
+internalNumber Inx = 11
+internalNumber Iny = 12
+internalNumber Dex = 13
+internalNumber Dey = 14
+internalNumber Nop = 15
+
+abbrev pub conditionNumber : Condition → ℕ
+conditionNumber Bpl = 0
+conditionNumber Bmi = 1
+conditionNumber Bvc = 2
+conditionNumber Bvs = 3
+conditionNumber Bcc = 4
+conditionNumber Bcs = 5
+conditionNumber Bne = 6
+conditionNumber Beq = 7
+
+unfoldable pub number : Instruction → ℕ
+number (Read o m) = 10 * readingNumber o + modeNumber m
+number (Store o m) = 120 + 10 * storingNumber o + modeNumber m
+number (Change o m) = 150 + 10 * changingNumber o + modeNumber m
+number (Accumulator o) = 210 + changingNumber o
+number (Implied o) = 214 + internalNumber o
+number (Branch t v) = 230 + conditionNumber t
+number (Jump a) = 238
+number (JumpIndirect a) = 239
+number (Jsr low) = 240
+number Rts = 241
+number Rti = 242
+number Brk = 243
+number Php = 244
+number Plp = 245
+number Pha = 246
+number Pla = 247
+number Txs = 248
+number Cli = 249
+
+-- "the other 105 are undefined": 255
+unfoldable pub numberOf : Entry → ℕ
+numberOf undefined = 255
+numberOf (alone i) = number i
+numberOf (byte f) = number (f 0)
+numberOf (word f) = number (f 0)
+numberOf (late f) = number (f 0)
+
+-- The way back: what stands at a number's place. The last of each kind is what a greater number is taken for.
+
+abbrev pub modes : ℕ → ℕ → List Mode
+modes low high =
+    Immediate low ∷ Zero low ∷ ZeroX low ∷ ZeroY low ∷ Absolute (address low high) ∷ AbsoluteX (address low high) ∷
+    AbsoluteY (address low high) ∷ IndirectX low ∷ IndirectY low ∷ []
+
+abbrev pub modeOf : ℕ → ℕ → ℕ → Mode
+modeOf n low high = getD (modes low high) n (IndirectBankY low)
+
+abbrev pub readings : List Reading
+readings = Ora ∷ And ∷ Eor ∷ Adc ∷ Lda ∷ Cmp ∷ Sbc ∷ Ldx ∷ Ldy ∷ Cpx ∷ Cpy ∷ []
+
+abbrev pub readingOf : ℕ → Reading
+readingOf n = getD readings n Bit
+
+abbrev pub storings : List Storing
+storings = Sta ∷ Stx ∷ []
+
+abbrev pub storingOf : ℕ → Storing
+storingOf n = getD storings n Sty
+
+abbrev pub changings : List Changing
+changings = Asl ∷ Rol ∷ Lsr ∷ Ror ∷ Dec ∷ []
+
+abbrev pub changingOf : ℕ → Changing
+changingOf n = getD changings n Inc
+
+abbrev pub internals : List Internal
+internals = Clc ∷ Sec ∷ Sei ∷ Clv ∷ Cld ∷ Sed ∷ Tax ∷ Txa ∷ Tay ∷ Tya ∷ Tsx ∷ Inx ∷ Iny ∷ Dex ∷ Dey ∷ []
+
+abbrev pub internalOf : ℕ → Internal
+internalOf n = getD internals n Nop
+
+abbrev pub conditions : List Condition
+conditions = Bpl ∷ Bmi ∷ Bvc ∷ Bvs ∷ Bcc ∷ Bcs ∷ Bne ∷ []
+
+abbrev pub conditionOf : ℕ → Condition
+conditionOf n = getD conditions n Beq
+
+abbrev pub singles : ℕ → ℕ → List Instruction
+singles low high =
+    Jump (address low high) ∷ JumpIndirect (address low high) ∷ Jsr low ∷ Rts ∷ Rti ∷ Brk ∷ Php ∷ Plp ∷ Pha ∷ Pla ∷ Txs ∷ []
+
+abbrev pub singleOf : ℕ → ℕ → ℕ → Instruction
+singleOf n low high = getD (singles low high) n Cli
+
+-- the instruction that a number makes of the two bytes after the opcode
+unfoldable pub made : ℕ → ℕ → ℕ → Instruction
+made n low high =
+    if ltb n 120 then Read (readingOf (n / 10)) (modeOf (n % 10) low high)
+    else if ltb n 150 then Store (storingOf (n / 10 - 12)) (modeOf (n % 10) low high)
+    else if ltb n 210 then Change (changingOf (n / 10 - 15)) (modeOf (n % 10) low high)
+    else if ltb n 214 then Accumulator (changingOf (n - 210))
+    else if ltb n 230 then Implied (internalOf (n - 214))
+    else if ltb n 238 then Branch (conditionOf (n - 230)) low
+    else singleOf (n - 238) low high
+
+-- the operand is an address: a, a,X, a,Y, and both JMP
+unfoldable pub isWord : ℕ → Bool
+isWord n = if ltb n 210 then leb 4 (n % 10) && ltb (n % 10) 7 else leb 238 n && ltb n 240
+
+-- how many bytes are fetched before the instruction's own accesses
+unfoldable pub fetched : ℕ → ℕ
+fetched n = if isWord n then 3 else if ltb n 210 then 2 else if ltb n 230 then 1 else if ltb n 238 then 2 else if eqb n 240 then 2 else 1
+
+-- the same of an entry: the opcode, and the operand; "JSR: low, .., then high operand"
+abbrev pub fetchedBy : Entry → ℕ
+fetchedBy undefined = 1
+fetchedBy (alone i) = 1
+fetchedBy (byte f) = 2
+fetchedBy (word f) = 3
+fetchedBy (late f) = 2
