@@ -165,7 +165,7 @@ pub fn load(m: Mode, state: &[u8], w: Wiring, image: &[u8], list: &mut [u8]) -> 
 // The address where a store or a shift/INC/DEC finds its data.
 pub fn place(m: Mode, state: &[u8], w: Wiring, image: &[u8], list: &mut [u8]) -> Spot
     requires { ⌜ Ready w (length (now state)) (length (now image)) (length (now list)) ⌝ }
-    ensures { λ r. ⌜ (r .count ≤ fetchedOf m + madeBy m) × ((s : State) → Stands execution s (now (state .entry)) w → Goes (place (s .cpu) m) (fetchedOf m) (s .bus) (now (image .entry)) (now (list .entry)) (r .address) (r .count) (s .bus) (now (image .entry)) (now (list .exit))) ⌝ }
+    ensures { λ r. ⌜ ((r .count ≤ 5) × (r .count ≤ fetchedOf m + madeBy m)) × ((s : State) → Stands execution s (now (state .entry)) w → Goes (place (s .cpu) m) (fetchedOf m) (s .bus) (now (image .entry)) (now (list .entry)) (r .address) (r .count) (s .bus) (now (image .entry)) (now (list .exit))) ⌝ }
 {
     match m {
         Mode::Immediate(v) => Spot {

@@ -75,6 +75,6 @@ pub record Stands (κ : Bank) (s : State) (r : List ℕ) (w : Wiring) : Type 0 w
 pub record Ready (w : Wiring) (r i l : ℕ) : Type 0 where
   pub whole : r ≡ 16
   pub room : 56 ≤ l
-  pub base : w .base + 65536 ≤ i
+  pub base : w .base + 65536 ≤ w .banks * 65536
   pub some : 1 ≤ w .banks
   pub banks : w .banks * 65536 ≤ i
