@@ -1,0 +1,10 @@
+use Rattle.arithmetic.proofs.Laws.{wrapped}
+use borrow.Author.Needs.{needs}
+use Rattle.arithmetic.proofs.compare.Statement.{statement}
+use Rattle.arithmetic.proofs.compare.Tie as tie
+
+returns : tie.Need-returns
+returns c = rw (c .nzc .ensures, wrapped _ _ _ (c .before .before .fits .m .fits) (c .before .wrapping-sub-u8 .ok) (c .before .wrapping-sub-u8 .ensures))
+
+pub compare-spec : {M : Type 1} → statement M
+compare-spec = tie.close (tie.spec (λ c κs. search needs) (λ c κs. search needs) returns)

@@ -1,0 +1,117 @@
+use Rattle.state.proofs.Registers.{a-of, x-of, y-of}
+use Rattle.rules.specs.Record.{recordOf}
+use Rattle.rules.specs.Operations.{used}
+use borrow.Author.Needs.{needs}
+use Rattle.operations.proofs.used.Statement.{statement}
+use Rattle.operations.proofs.used.Tie as tie
+
+returns : tie.Need-returns
+unfolding used recordOf
+returns c = λ s e. rw (c .before .before .before .before .enum-told .given .1, c .before .before .to .ensures s e, e)
+
+returns-2 : tie.Need-returns-2
+unfolding used recordOf
+returns-2 c = λ s e. rw (c .before .before .before .before .enum-told2 .given .1, c .before .before .to2 .ensures s e, e)
+
+returns-3 : tie.Need-returns-3
+unfolding used recordOf
+returns-3 c = λ s e. rw (c .before .before .before .before .enum-told3 .given .1, c .before .before .to3 .ensures s e, e)
+
+returns-4 : tie.Need-returns-4
+unfolding used
+returns-4 c = λ s e. rw (c .before .before .before .before .before .enum-told4 .given .1) (rw (c .before .before .before .adc .ensures, c .before .before .before .before .before .before .before .flags-of .ensures s e, a-of s e) at (c .before .before .to-result .ensures s e))
+
+returns-5 : tie.Need-returns-5
+unfolding used recordOf
+returns-5 c = λ s e. rw (c .before .before .before .before .enum-told5 .given .1, c .before .before .to4 .ensures s e)
+
+returns-6 : tie.Need-returns-6
+unfolding used
+returns-6 c = λ s e. rw (c .before .before .before .before .before .enum-told6 .given .1) (rw (c .before .before .before .compare .ensures, c .before .before .before .before .before .before .before .flags-of .ensures s e, a-of s e) at (c .before .before .set-flags .ensures s e))
+
+returns-7 : tie.Need-returns-7
+unfolding used
+returns-7 c = λ s e. rw (c .before .before .before .before .before .enum-told7 .given .1) (rw (c .before .before .before .sbc .ensures, c .before .before .before .before .before .before .before .flags-of .ensures s e, a-of s e) at (c .before .before .to-result2 .ensures s e))
+
+returns-8 : tie.Need-returns-8
+unfolding used recordOf
+returns-8 c = λ s e. rw (c .before .before .before .before .enum-told8 .given .1, c .before .before .to5 .ensures s e)
+
+returns-9 : tie.Need-returns-9
+unfolding used recordOf
+returns-9 c = λ s e. rw (c .before .before .before .before .enum-told9 .given .1, c .before .before .to6 .ensures s e)
+
+returns-10 : tie.Need-returns-10
+unfolding used
+returns-10 c = λ s e. rw (c .before .before .before .before .before .enum-told10 .given .1) (rw (c .before .before .before .compare2 .ensures, c .before .before .before .before .before .before .before .flags-of .ensures s e, x-of s e) at (c .before .before .set-flags2 .ensures s e))
+
+returns-11 : tie.Need-returns-11
+unfolding used
+returns-11 c = λ s e. rw (c .before .before .before .before .before .enum-told11 .given .1) (rw (c .before .before .before .compare3 .ensures, c .before .before .before .before .before .before .before .flags-of .ensures s e, y-of s e) at (c .before .before .set-flags3 .ensures s e))
+
+returns-12 : tie.Need-returns-12
+unfolding used
+returns-12 c = λ s e. rw (c .before .before .before .before .before .enum-told12 .given .1) (rw (c .before .before .before .bit-test .ensures, c .before .before .before .before .before .before .before .flags-of .ensures s e, a-of s e) at (c .before .before .set-flags4 .ensures s e))
+
+pub used-spec : {M : Type 1} → statement M
+used-spec =
+    tie.close
+    (tie.spec
+    (λ c. search needs)
+    (λ c. search needs)
+    (λ c. search needs)
+    (λ c κs. search needs)
+    (λ c. search needs)
+    (λ c κs. search needs)
+    (λ c. search needs)
+    (λ c κs. search needs)
+    (λ c. search needs)
+    (λ c κs. search needs)
+    (λ c. search needs)
+    (λ c κs. search needs)
+    (λ c κs. search needs)
+    (λ c. search needs)
+    (λ c κs. search needs)
+    (λ c. search needs)
+    (λ c κs. search needs)
+    (λ c κs. search needs)
+    (λ c. search needs)
+    (λ c κs. search needs)
+    (λ c κs. search needs)
+    (λ c. search needs)
+    (λ c κs. search needs)
+    (λ c. search needs)
+    (λ c κs. search needs)
+    (λ c. search needs)
+    (λ c κs. search needs)
+    (λ c κs. search needs)
+    (λ c. search needs)
+    (λ c κs. search needs)
+    (λ c κs. search needs)
+    (λ c. search needs)
+    (λ c κs. search needs)
+    (λ c κs. search needs)
+    (λ c. search needs)
+    returns
+    (λ c. search needs)
+    returns-2
+    (λ c. search needs)
+    returns-3
+    (λ c. search needs)
+    returns-4
+    (λ c. search needs)
+    returns-5
+    (λ c. search needs)
+    returns-6
+    (λ c. search needs)
+    returns-7
+    (λ c. search needs)
+    returns-8
+    (λ c. search needs)
+    returns-9
+    (λ c. search needs)
+    returns-10
+    (λ c. search needs)
+    returns-11
+    (λ c. search needs)
+    returns-12)

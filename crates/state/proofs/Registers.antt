@@ -1,0 +1,19 @@
+-- The registers in the sixteen bytes.
+use Prim.Native.Nat.{ℕ}
+use mathlib.Core.Path.{_≡_}
+use mathlib.Core.List.{List}
+use lib.ListN.{getD}
+use Rattle.rules.specs.declared.State.{State}
+use Rattle.rules.specs.Record.{recordOf}
+
+pub a-of : (s : State) {r : List ℕ} → r ≡ recordOf s → getD r 1 0 ≡ s .cpu .a
+unfolding recordOf
+a-of s e = rw e
+
+pub x-of : (s : State) {r : List ℕ} → r ≡ recordOf s → getD r 2 0 ≡ s .cpu .x
+unfolding recordOf
+x-of s e = rw e
+
+pub y-of : (s : State) {r : List ℕ} → r ≡ recordOf s → getD r 3 0 ≡ s .cpu .y
+unfolding recordOf
+y-of s e = rw e
