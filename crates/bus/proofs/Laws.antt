@@ -90,3 +90,17 @@ valued d e = record { made = d .made; ran = d .ran ∙ (rw e); count = d .count;
 pub does : {t : Cycles Cpu} {k n : ℕ} (s : State) {i l r′ i′ l′ : List ℕ} {c : Cpu} → r′ ≡ recordOf (moved c (s .bus) s) →
     Goes t k (s .bus) i l c n (s .bus) i′ l′ → Does t k s i l n r′ i′ l′
 does s {c = c} e g = record { cpu = c; bus = s .bus; bytes = e; goes = g }
+
+-- accesses that leave the bus as it was, and then an instruction's end
+pub call-does : {A : Type 0} {t : Cycles A} (f : A → Cycles Cpu) {k n m : ℕ} {s : State} {i l i′ l′ r″ i″ l″ : List ℕ} {a : A} →
+    Goes t k (s .bus) i l a n (s .bus) i′ l′ → Does (f a) n s i′ l′ m r″ i″ l″ → Does (t >>= f) k s i l m r″ i″ l″
+call-does f d e = record { cpu = e .cpu; bus = e .bus; bytes = e .bytes; goes = then-call f d (e .goes) }
+
+pub do-does : {t : Cycles (Unit {0})} (w : Cycles Cpu) {k n m : ℕ} {s : State} {i l i′ l′ r″ i″ l″ : List ℕ} →
+    Goes t k (s .bus) i l tt n (s .bus) i′ l′ → Does w n s i′ l′ m r″ i″ l″ → Does (t >>= λ x. w) k s i l m r″ i″ l″
+do-does w d e = call-does (λ x. w) d e
+
+pub read-does : {κ : Bank} {p : ℕ} (f : ℕ → Cycles Cpu) {k n m : ℕ} {s : State} {i l i′ l′ r″ i″ l″ : List ℕ} {v : ℕ} →
+    Goes (read κ p done) k (s .bus) i l v n (s .bus) i′ l′ → Does (f v) n s i′ l′ m r″ i″ l″ → Does (read κ p f) k s i l m r″ i″ l″
+unfolding _>>=_
+read-does f d e = call-does f d e

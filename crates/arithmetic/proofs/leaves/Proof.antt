@@ -7,7 +7,7 @@ returns : tie.Need-returns
 returns c = rw (lt-ltb _ _ (c .if1 .taken), lt-leb _ _ (c .if1 .taken))
 
 returns-2 : tie.Need-returns-2
-returns-2 c = rw (le-leb _ _ (c .if1 .left), not-below)
+returns-2 c = rw (le-leb _ _ (c .if1 .left), ← not-below)
 
 pub leaves-spec : {M : Type 1} → statement M
 leaves-spec = tie.close (tie.spec returns returns-2)
