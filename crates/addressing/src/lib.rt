@@ -94,7 +94,7 @@ fn load_indexed(
     i: u8,
 ) -> Loaded
     requires { ⌜ (k < 6) × Ready w (length (now state)) (length (now image)) (length (now list)) ⌝ }
-    ensures { λ r. ⌜ ((s : State) (κ : Bank) → Stands κ s (now (state .entry)) w → Goes (loadIndexed κ a i) k (s .bus) (now (image .entry)) (now (list .entry)) (r .value) (r .count) (s .bus) (now (image .entry)) (now (list .exit))) ⌝ }
+    ensures { λ r. ⌜ (r .count ≤ k + 2) × ((s : State) (κ : Bank) → Stands κ s (now (state .entry)) w → Goes (loadIndexed κ a i) k (s .bus) (now (image .entry)) (now (list .entry)) (r .value) (r .count) (s .bus) (now (image .entry)) (now (list .exit))) ⌝ }
 {
     let near = old_page(a, i);
     let sum = std::num::wrapping_add_u16(a, i as u16);
@@ -115,7 +115,7 @@ fn load_indexed(
 // The byte that a load finds.
 pub fn load(m: Mode, state: &[u8], w: Wiring, image: &[u8], list: &mut [u8]) -> Loaded
     requires { ⌜ Ready w (length (now state)) (length (now image)) (length (now list)) ⌝ }
-    ensures { λ r. ⌜ ((s : State) → Stands execution s (now (state .entry)) w → Goes (load (s .cpu) m) (fetchedOf m) (s .bus) (now (image .entry)) (now (list .entry)) (r .value) (r .count) (s .bus) (now (image .entry)) (now (list .exit))) ⌝ }
+    ensures { λ r. ⌜ (r .count ≤ 7) × ((s : State) → Stands execution s (now (state .entry)) w → Goes (load (s .cpu) m) (fetchedOf m) (s .bus) (now (image .entry)) (now (list .entry)) (r .value) (r .count) (s .bus) (now (image .entry)) (now (list .exit))) ⌝ }
 {
     match m {
         Mode::Immediate(v) => Loaded { value: v, count: 2 },

@@ -1,20 +1,26 @@
 // One instruction, one line a bus cycle, in the order of time.
 
 use bus::Wiring;
+use rules::Changing;
+use rules::Condition;
+use rules::Instruction;
 use rules::Mode;
+use rules::Reading;
 use rules::Storing;
 ghost use Prim.Native.Nat.{_+_, _*_, _≤_, _<_};
 ghost use mathlib.Core.Path.{_≡_};
 ghost use lib.ListN.{length};
 ghost use Rattle.rules.specs.declared.State.{State};
-ghost use Rattle.rules.specs.declared.Instruction.the-variants.{Store};
+ghost use Rattle.rules.specs.declared.Instruction.the-variants.{Read, Store, Change, Branch};
 ghost use Rattle.rules.specs.Cycles.{execution};
+ghost use Rattle.rules.specs.Bus.{world, images, look};
 ghost use Rattle.rules.specs.Record.{recordOf};
 ghost use Rattle.rules.specs.Addressing.{bankOf};
-ghost use Rattle.rules.specs.Operations.{registerOf, perform};
+ghost use Rattle.rules.specs.Operations.{registerOf, target, perform};
 ghost use Rattle.bus.specs.Wiring.{Stands, Ready};
 ghost use Rattle.bus.specs.Goes.{Does};
-ghost use Rattle.addressing.specs.Start.{fetchedOf};
+ghost use Rattle.addressing.specs.Start.{fetchedOf, madeBy};
+ghost use Rattle.processor.specs.Rewritten.{rewritten};
 
 fn register_of(o: Storing, state: &[u8]) -> u8
     requires { ⌜ length (now state) ≡ 16 ⌝ }
@@ -63,4 +69,88 @@ fn store(
     let k = at.count;
     bus::write(state, there, image, list, k, at.address, v);
     k + 1
+}
+
+// The two writes of "Shift/INC/DEC: read data, write it back, write the result"; v is what was read.
+fn rewrite(
+    o: Changing,
+    k: usize,
+    a: u16,
+    v: u8,
+    state: &mut [u8],
+    w: Wiring,
+    image: &mut [u8],
+    list: &mut [u8],
+)
+    requires { ⌜ (k < 6) × Ready w (length (now state)) (length (now image)) (length (now list)) ⌝ }
+    ensures { λ r. ⌜ ((s : State) → Stands execution s (now (state .entry)) w → v ≡ look images (world (s .bus) (now (image .entry))) execution a → Does (rewritten o a v (s .cpu)) k s (now (image .entry)) (now (list .entry)) (k + 2) (now (state .exit)) (now (image .exit)) (now (list .exit))) ⌝ }
+{
+    let f = state::flags_of(state);
+    let made = arithmetic::changed(o, v, f);
+    bus::write(state, w, image, list, k, a, v);
+    bus::write(state, w, image, list, k + 1, a, made.value);
+    let after = made.flags;
+    state::set_flags(state, after);
+}
+
+fn change(
+    o: Changing,
+    m: Mode,
+    state: &mut [u8],
+    w: Wiring,
+    image: &mut [u8],
+    list: &mut [u8],
+) -> usize
+    requires { ⌜ (fetchedOf m + madeBy m ≤ 4) × Ready w (length (now state)) (length (now image)) (length (now list)) ⌝ }
+    ensures { λ r. ⌜ (r ≤ 7) × ((s : State) → Stands execution s (now (state .entry)) w → Does (perform (Change o m) (s .cpu)) (fetchedOf m) s (now (image .entry)) (now (list .entry)) r (now (state .exit)) (now (image .exit)) (now (list .exit))) ⌝ }
+{
+    let at = addressing::place(m, state, w, image, list);
+    let k = at.count;
+    let a = at.address;
+    let v = bus::read(state, w, image, list, k, a);
+    rewrite(o, k + 1, a, v, state, w, image, list);
+    k + 3
+}
+
+fn target(next: u16, o: u8) -> u16
+    ensures { λ r. ⌜ r ≡ target next o ⌝ }
+{
+    let up = std::num::wrapping_add_u8(o, 128) as u16;
+    std::num::wrapping_add_u16(std::num::wrapping_add_u16(next, up), 65408)
+}
+
+// "Branch: offset; if taken, read the next instruction's address". PC stands there.
+fn branch(t: Condition, o: u8, state: &mut [u8], w: Wiring, image: &[u8], list: &mut [u8]) -> usize
+    requires { ⌜ Ready w (length (now state)) (length (now image)) (length (now list)) ⌝ }
+    ensures { λ r. ⌜ (r ≤ 7) × ((s : State) → Stands execution s (now (state .entry)) w → Does (perform (Branch t o) (s .cpu)) 2 s (now (image .entry)) (now (list .entry)) r (now (state .exit)) (now (image .entry)) (now (list .exit))) ⌝ }
+{
+    if operations::taken(t, state::flags_of(state)) {
+        let pc = state::pc_of(state);
+        let to = target(pc, o);
+        bus::read(state, w, image, list, 2, pc);
+        if to / 256 == pc / 256 {
+            state::set_pc(state, to);
+            return 3;
+        }
+        bus::read(state, w, image, list, 3, pc / 256 * 256 + to % 256);
+        state::set_pc(state, to);
+        return 4;
+    }
+    2
+}
+
+fn read_into(
+    o: Reading,
+    m: Mode,
+    state: &mut [u8],
+    w: Wiring,
+    image: &[u8],
+    list: &mut [u8],
+) -> usize
+    requires { ⌜ Ready w (length (now state)) (length (now image)) (length (now list)) ⌝ }
+    ensures { λ r. ⌜ (r ≤ 7) × ((s : State) → Stands execution s (now (state .entry)) w → Does (perform (Read o m) (s .cpu)) (fetchedOf m) s (now (image .entry)) (now (list .entry)) r (now (state .exit)) (now (image .entry)) (now (list .exit))) ⌝ }
+{
+    let got = addressing::load(m, state, w, image, list);
+    operations::used(o, got.value, state);
+    got.count
 }
