@@ -11,16 +11,20 @@ ghost use Prim.Native.Nat.{_+_, _*_, _≤_, _<_};
 ghost use mathlib.Core.Path.{_≡_};
 ghost use lib.ListN.{length};
 ghost use Rattle.rules.specs.declared.State.{State};
-ghost use Rattle.rules.specs.declared.Instruction.the-variants.{Read, Store, Change, Branch};
+ghost use Rattle.rules.specs.declared.Instruction.the-variants.{Read, Store, Change, Branch, Php, Pha};
 ghost use Rattle.rules.specs.Cycles.{execution};
 ghost use Rattle.rules.specs.Bus.{world, images, look};
 ghost use Rattle.rules.specs.Record.{recordOf};
 ghost use Rattle.rules.specs.Addressing.{bankOf};
-ghost use Rattle.rules.specs.Operations.{registerOf, target, perform};
+ghost use Rattle.rules.specs.Operations.{withP, withS, registerOf, target, perform};
+ghost use Rattle.rules.specs.Flags.{withI};
+ghost use Rattle.state.specs.Makes.{Makes};
 ghost use Rattle.bus.specs.Wiring.{Stands, Ready};
 ghost use Rattle.bus.specs.Goes.{Does};
 ghost use Rattle.addressing.specs.Start.{fetchedOf, madeBy};
 ghost use Rattle.processor.specs.Rewritten.{rewritten};
+ghost use Rattle.processor.specs.Begun.{begun, short};
+ghost use mathlib.Core.Bool.{true, false};
 
 fn register_of(o: Storing, state: &[u8]) -> u8
     requires { ⌜ length (now state) ≡ 16 ⌝ }
@@ -153,4 +157,106 @@ fn read_into(
     let got = addressing::load(m, state, w, image, list);
     operations::used(o, got.value, state);
     got.count
+}
+
+// PHP pushes "bits 4, 5 set".
+fn php(state: &mut [u8], w: Wiring, image: &mut [u8], list: &mut [u8])
+    requires { ⌜ Ready w (length (now state)) (length (now image)) (length (now list)) ⌝ }
+    ensures { λ r. ⌜ ((s : State) → Stands execution s (now (state .entry)) w → Does (perform Php (s .cpu)) 2 s (now (image .entry)) (now (list .entry)) 3 (now (state .exit)) (now (image .exit)) (now (list .exit))) ⌝ }
+{
+    let p = stack::with_bit_4(state::flags_of(state));
+    stack::push(p, state, w, image, list)
+}
+
+fn pha(state: &mut [u8], w: Wiring, image: &mut [u8], list: &mut [u8])
+    requires { ⌜ Ready w (length (now state)) (length (now image)) (length (now list)) ⌝ }
+    ensures { λ r. ⌜ ((s : State) → Stands execution s (now (state .entry)) w → Does (perform Pha (s .cpu)) 2 s (now (image .entry)) (now (list .entry)) 3 (now (state .exit)) (now (image .exit)) (now (list .exit))) ⌝ }
+{
+    let a = register_of(Storing::Sta, state);
+    stack::push(a, state, w, image, list)
+}
+
+fn txs(state: &mut [u8])
+    requires { ⌜ length (now state) ≡ 16 ⌝ }
+    ensures { λ r. ⌜ Makes (λ c. withS (c .x) c) (now (state .entry)) (now (state .exit)) ⌝ }
+{
+    let x = register_of(Storing::Stx, state);
+    state::set_s(state, x)
+}
+
+fn cli(state: &mut [u8])
+    requires { ⌜ length (now state) ≡ 16 ⌝ }
+    ensures { λ r. ⌜ Makes (λ c. withP (withI false (c .p)) c) (now (state .entry)) (now (state .exit)) ⌝ }
+{
+    let f = state::flags_of(state);
+    state::set_flags(state, operations::with_i(false, f))
+}
+
+// An instruction's own accesses, and what it leaves. Answers the accesses made so far.
+fn perform(i: Instruction, state: &mut [u8], w: Wiring, image: &mut [u8], list: &mut [u8]) -> usize
+    requires { ⌜ (short i ≡ true) × Ready w (length (now state)) (length (now image)) (length (now list)) ⌝ }
+    ensures { λ r. ⌜ (r ≤ 7) × ((s : State) → Stands execution s (now (state .entry)) w → Does (perform i (s .cpu)) (begun i) s (now (image .entry)) (now (list .entry)) r (now (state .exit)) (now (image .exit)) (now (list .exit))) ⌝ }
+{
+    match i {
+        Instruction::Read(o, m) => read_into(o, m, state, w, image, list),
+        Instruction::Store(o, m) => store(o, m, state, w, image, list),
+        Instruction::Change(o, m) => change(o, m, state, w, image, list),
+        Instruction::Accumulator(o) => {
+            operations::accumulated(o, state);
+            2
+        }
+        Instruction::Implied(o) => {
+            operations::inside(o, state);
+            2
+        }
+        Instruction::Branch(t, o) => branch(t, o, state, w, image, list),
+        Instruction::Jump(a) => {
+            state::set_pc(state, a);
+            3
+        }
+        Instruction::JumpIndirect(a) => {
+            stack::jump_indirect(a, state, w, image, list);
+            5
+        }
+        Instruction::Jsr(low) => {
+            stack::jsr(low, state, w, image, list);
+            6
+        }
+        Instruction::Rts => {
+            stack::rts(state, w, image, list);
+            6
+        }
+        Instruction::Rti => {
+            stack::rti(state, w, image, list);
+            6
+        }
+        Instruction::Brk => {
+            stack::brk(state, w, image, list);
+            7
+        }
+        Instruction::Php => {
+            php(state, w, image, list);
+            3
+        }
+        Instruction::Plp => {
+            stack::plp(state, w, image, list);
+            4
+        }
+        Instruction::Pha => {
+            pha(state, w, image, list);
+            3
+        }
+        Instruction::Pla => {
+            stack::pla(state, w, image, list);
+            4
+        }
+        Instruction::Txs => {
+            txs(state);
+            2
+        }
+        Instruction::Cli => {
+            cli(state);
+            2
+        }
+    }
 }
