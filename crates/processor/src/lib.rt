@@ -12,15 +12,17 @@ ghost use mathlib.Core.Path.{_≡_};
 ghost use lib.ListN.{length};
 ghost use Rattle.rules.specs.declared.State.{State};
 ghost use Rattle.rules.specs.declared.Instruction.the-variants.{Read, Store, Change, Branch, Php, Pha};
-ghost use Rattle.rules.specs.Cycles.{execution};
+ghost use Rattle.rules.specs.Cycles.{execution, read, done};
 ghost use Rattle.rules.specs.Bus.{world, images, look};
 ghost use Rattle.rules.specs.Record.{recordOf};
 ghost use Rattle.rules.specs.Addressing.{bankOf};
-ghost use Rattle.rules.specs.Operations.{withP, withS, registerOf, target, perform};
+ghost use Rattle.rules.specs.Operations.{withP, withS, registerOf, target, perform, next, operate};
+ghost use Rattle.rules.specs.Opcodes.{decode, isDefined};
+ghost use Rattle.decode.specs.Numbers.{numberOf};
 ghost use Rattle.rules.specs.Flags.{withI};
 ghost use Rattle.state.specs.Makes.{Makes};
 ghost use Rattle.bus.specs.Wiring.{Stands, Ready};
-ghost use Rattle.bus.specs.Goes.{Does};
+ghost use Rattle.bus.specs.Goes.{Goes, Does};
 ghost use Rattle.addressing.specs.Start.{fetchedOf, madeBy};
 ghost use Rattle.processor.specs.Rewritten.{rewritten};
 ghost use Rattle.processor.specs.Begun.{begun, short};
@@ -259,4 +261,39 @@ fn perform(i: Instruction, state: &mut [u8], w: Wiring, image: &mut [u8], list: 
             2
         }
     }
+}
+
+// The high byte of an address, where three bytes are fetched.
+fn high_operand(size: u16, state: &[u8], w: Wiring, image: &[u8], list: &mut [u8], a: u16) -> u8
+    requires { ⌜ Ready w (length (now state)) (length (now image)) (length (now list)) ⌝ }
+    ensures { λ r. ⌜ ((s : State) → Stands execution s (now (state .entry)) w → size ≡ 3 → Goes (read execution a done) 2 (s .bus) (now (image .entry)) (now (list .entry)) r 3 (s .bus) (now (image .entry)) (now (list .exit))) × ((size ≡ 3 → ⊥) → now (list .exit) ≡ now (list .entry)) ⌝ }
+{
+    if size == 3 {
+        return bus::read(state, w, image, list, 2, a);
+    }
+    0
+}
+
+// The instruction whose opcode was listed at PC; the entry is the opcode's. Answers the accesses made.
+pub fn instruction(
+    opcode: u8,
+    entry: u8,
+    pc: u16,
+    state: &mut [u8],
+    w: Wiring,
+    image: &mut [u8],
+    list: &mut [u8],
+) -> usize
+    requires { ⌜ (entry ≡ numberOf (decode opcode)) × Ready w (length (now state)) (length (now image)) (length (now list)) ⌝ }
+    ensures { λ r. ⌜ (r ≤ 7) × ((s : State) → Stands execution s (now (state .entry)) w → pc ≡ s .cpu .pc → isDefined (decode opcode) ≡ true → Does (operate (decode opcode) (next (s .cpu))) 1 s (now (image .entry)) (now (list .entry)) r (now (state .exit)) (now (image .exit)) (now (list .exit))) ⌝ }
+{
+    let size = decode::fetched(entry);
+    let one = std::num::wrapping_add_u16(pc, 1);
+    let two = std::num::wrapping_add_u16(pc, 2);
+    let after = std::num::wrapping_add_u16(pc, size);
+    let low = bus::read(state, w, image, list, 1, one);
+    let high = high_operand(size, state, w, image, list, two);
+    let i = decode::instruction_of(entry, low, high);
+    state::set_pc(state, after);
+    perform(i, state, w, image, list)
 }
