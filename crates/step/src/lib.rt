@@ -1,0 +1,132 @@
+// One step: what is refused, which event is taken, and what a step leaves.
+
+use bus::Wiring;
+use rules::Refusal;
+use rules::StepAnswer;
+ghost use Prim.Native.Nat.{_+_, _*_, _≤_, _<_, _/_, _%_};
+ghost use mathlib.Core.Path.{_≡_};
+ghost use mathlib.Core.Bool.{true, false, not, _&&_};
+ghost use lib.Dec.{eqb};
+ghost use lib.ListN.{length};
+ghost use Rattle.rules.specs.declared.State.{State};
+ghost use Rattle.rules.specs.Basics.{if_then_else_};
+ghost use Rattle.rules.specs.Cycles.{execution};
+ghost use Rattle.rules.specs.Opcodes.{decode, isDefined};
+ghost use Rattle.rules.specs.Operations.{instruction};
+ghost use Rattle.rules.specs.Interrupts.{irqOf, irq, execute, eventOf, reset};
+ghost use Rattle.rules.specs.Bus.{world, images, look, resetBus};
+ghost use Rattle.rules.specs.Record.{long, stateOf, recordOf, wellFormed};
+ghost use Rattle.rules.specs.Step.{banksIn, step};
+ghost use Rattle.decode.specs.Numbers.{numberOf};
+ghost use Rattle.bus.specs.Wiring.{Sound, Stands, Ready};
+ghost use Rattle.bus.specs.Goes.{moved, Does};
+ghost use Rattle.step.specs.Parts.{vectorOf, closed, resetOf};
+
+// "IRQ with I = 0"
+fn irq_vector(lines: u8, i: bool) -> u16
+    ensures { λ r. ⌜ r ≡ vectorOf (if irqOf lines && not i then irq else execute) ⌝ }
+{
+    if lines / 4 % 2 == 1 {
+        if i {
+            return 0;
+        }
+        return 65534;
+    }
+    0
+}
+
+// "First that applies: RES; NMI asserted with last level 0; IRQ with I = 0; else the instruction at PC."
+fn vector_of(lines: u8, level: u8, i: bool) -> u16
+    ensures { λ r. ⌜ ((s : State) → i ≡ s .cpu .p .i → r ≡ vectorOf (eventOf lines (eqb level 1) (s .cpu))) ⌝ }
+{
+    if lines / 1 % 2 == 1 {
+        return 65532;
+    }
+    if lines / 2 % 2 == 1 {
+        if level == 1 {
+            return irq_vector(lines, i);
+        }
+        return 65530;
+    }
+    irq_vector(lines, i)
+}
+
+fn vector_in(lines: u8, state: &[u8]) -> u16
+    requires { ⌜ length (now state) ≡ 16 ⌝ }
+    ensures { λ r. ⌜ ((s : State) → now (state .entry) ≡ recordOf s → r ≡ vectorOf (eventOf lines (s .nmi) (s .cpu))) ⌝ }
+{
+    if lines == 0 {
+        return 0;
+    }
+    let f = state::flags_of(state);
+    vector_of(lines, state[10], f.i)
+}
+
+fn long(a: u8, b: u8, c: u8, d: u8) -> u32
+    ensures { λ r. ⌜ r ≡ long a b c d ⌝ }
+{
+    a as u32 + b as u32 * 256 + c as u32 * 65536 + d as u32 * 16777216
+}
+
+fn set_cycles(state: &mut [u8], n: u32)
+    requires { ⌜ length (now state) ≡ 16 ⌝ }
+    ensures { λ r. ⌜ ((s : State) → now (state .entry) ≡ recordOf s → now (state .exit) ≡ recordOf (record { cpu = s .cpu; bus = s .bus; nmi = s .nmi; cycles = n })) ⌝ }
+{
+    state[12] = (n % 256) as u8;
+    state[13] = (n / 256 % 256) as u8;
+    state[14] = (n / 65536 % 256) as u8;
+    state[15] = (n / 16777216) as u8;
+}
+
+// "Every step stores the NMI level, answers its number of accesses and adds it to the record's count."
+fn close(state: &mut [u8], lines: u8, count: usize)
+    requires { ⌜ (length (now state) ≡ 16) × (count ≤ 7) ⌝ }
+    ensures { λ r. ⌜ ((s : State) → now (state .entry) ≡ recordOf s → now (state .exit) ≡ recordOf (closed lines count s)) ⌝ }
+{
+    let n = long(state[12], state[13], state[14], state[15]);
+    set_cycles(state, std::num::wrapping_add_u32(n, count as u32));
+    state[10] = lines / 2 % 2;
+}
+
+fn reset_register(part: u8) -> u8
+    ensures { λ r. ⌜ r ≡ resetOf part ⌝ }
+{
+    if part == 9 { 15 } else { 0 }
+}
+
+// "6508 registers 0 or 6509 registers 15, both before its first access"
+fn reset_registers(state: &mut [u8])
+    requires { ⌜ length (now state) ≡ 16 ⌝ }
+    ensures { λ r. ⌜ ((s : State) → now (state .entry) ≡ recordOf s → now (state .exit) ≡ recordOf (moved (s .cpu) (resetBus (s .bus)) s)) ⌝ }
+{
+    let v = reset_register(state[0]);
+    state[8] = v;
+    state[9] = v;
+}
+
+// RES: what it leaves before the step is closed.
+fn reset(state: &mut [u8], image: &[u8], list: &mut [u8], pins: u8, banks: u8)
+    requires { ⌜ ((length (now state) ≡ 16) × (56 ≤ length (now list))) × ((1 ≤ banks) × (banks * 65536 ≤ length (now image))) ⌝ }
+    ensures { λ r. ⌜ ((s : State) → now (state .entry) ≡ recordOf s → Sound (s .bus) → s .bus .pins ≡ pins → s .bus .banks ≡ banks → Does (reset (s .cpu)) 0 (moved (s .cpu) (resetBus (s .bus)) s) (now (image .entry)) (now (list .entry)) 7 (now (state .exit)) (now (image .entry)) (now (list .exit))) ⌝ }
+{
+    reset_registers(state);
+    let w = bus::wire(state, pins, banks);
+    stack::reset(state, w, image, list);
+}
+
+// The instruction at PC, whose opcode was looked at.
+fn execute(
+    opcode: u8,
+    entry: u8,
+    pc: u16,
+    state: &mut [u8],
+    w: Wiring,
+    image: &mut [u8],
+    list: &mut [u8],
+) -> usize
+    requires { ⌜ (entry ≡ numberOf (decode opcode)) × Ready w (length (now state)) (length (now image)) (length (now list)) ⌝ }
+    ensures { λ r. ⌜ (r ≤ 7) × ((s : State) → Stands execution s (now (state .entry)) w → pc ≡ s .cpu .pc → opcode ≡ look images (world (s .bus) (now (image .entry))) execution (s .cpu .pc) → isDefined (decode opcode) ≡ true → Does (instruction (s .cpu)) 0 s (now (image .entry)) (now (list .entry)) r (now (state .exit)) (now (image .exit)) (now (list .exit))) ⌝ }
+{
+    bus::note(list, 0, pc, w.bank, opcode, 0);
+    processor::instruction(opcode, entry, pc, state, w, image, list)
+}
