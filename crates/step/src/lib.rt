@@ -13,14 +13,14 @@ ghost use Rattle.rules.specs.Basics.{if_then_else_};
 ghost use Rattle.rules.specs.Cycles.{execution};
 ghost use Rattle.rules.specs.Opcodes.{decode, isDefined};
 ghost use Rattle.rules.specs.Operations.{instruction};
-ghost use Rattle.rules.specs.Interrupts.{irqOf, irq, execute, eventOf, reset};
+ghost use Rattle.rules.specs.Interrupts.{irqOf, Event, res, irq, execute, eventOf, cyclesOf, interrupt, reset};
 ghost use Rattle.rules.specs.Bus.{world, images, look, resetBus};
 ghost use Rattle.rules.specs.Record.{long, stateOf, recordOf, wellFormed};
-ghost use Rattle.rules.specs.Step.{banksIn, step};
+ghost use Rattle.rules.specs.Step.{busAt, ranOf, finished};
 ghost use Rattle.decode.specs.Numbers.{numberOf};
 ghost use Rattle.bus.specs.Wiring.{Sound, Stands, Ready};
 ghost use Rattle.bus.specs.Goes.{moved, Does};
-ghost use Rattle.step.specs.Parts.{vectorOf, closed, resetOf};
+ghost use Rattle.step.specs.Parts.{vectorOf, closed, resetOf, left, advanced, Begins};
 
 // "IRQ with I = 0"
 fn irq_vector(lines: u8, i: bool) -> u16
@@ -129,4 +129,64 @@ fn execute(
 {
     bus::note(list, 0, pc, w.bank, opcode, 0);
     processor::instruction(opcode, entry, pc, state, w, image, list)
+}
+
+fn run_reset(
+    state: &mut [u8],
+    image: &mut [u8],
+    lines: u8,
+    pins: u8,
+    list: &mut [u8],
+    banks: u8,
+) -> StepAnswer
+    requires { ⌜ ((length (now state) ≡ 16) × (56 ≤ length (now list))) × ((1 ≤ banks) × (banks * 65536 ≤ length (now image))) ⌝ }
+    ensures { λ r. ⌜ ((u : State) → Begins u (now (state .entry)) pins banks → left r (now (state .exit)) (now (image .exit)) (now (list .exit)) ≡ finished images lines u (ranOf images res u (now (image .entry))) (now (list .entry))) ⌝ }
+{
+    reset(state, image, list, pins, banks);
+    close(state, lines, 7);
+    StepAnswer::Stepped(7)
+}
+
+fn run_interrupt(
+    vector: u16,
+    state: &mut [u8],
+    image: &mut [u8],
+    lines: u8,
+    pins: u8,
+    list: &mut [u8],
+    banks: u8,
+) -> StepAnswer
+    requires { ⌜ (vector < 65535) × (((length (now state) ≡ 16) × (56 ≤ length (now list))) × ((1 ≤ banks) × (banks * 65536 ≤ length (now image)))) ⌝ }
+    ensures { λ r. ⌜ ((u : State) (e : Event) → Begins u (now (state .entry)) pins banks → (cyclesOf e (u .cpu) ≡ interrupt vector (u .cpu)) × (busAt e (u .bus) ≡ u .bus) → left r (now (state .exit)) (now (image .exit)) (now (list .exit)) ≡ finished images lines u (ranOf images e u (now (image .entry))) (now (list .entry))) ⌝ }
+{
+    let w = bus::wire(state, pins, banks);
+    stack::interrupt(vector, state, w, image, list);
+    close(state, lines, 7);
+    StepAnswer::Stepped(7)
+}
+
+fn run_instruction(
+    state: &mut [u8],
+    image: &mut [u8],
+    lines: u8,
+    pins: u8,
+    list: &mut [u8],
+    banks: u8,
+) -> StepAnswer
+    requires { ⌜ ((length (now state) ≡ 16) × (56 ≤ length (now list))) × ((1 ≤ banks) × (banks * 65536 ≤ length (now image))) ⌝ }
+    ensures { λ r. ⌜ ((u : State) → Begins u (now (state .entry)) pins banks → left r (now (state .exit)) (now (image .exit)) (now (list .exit)) ≡ advanced execute lines u (now (state .entry)) (now (image .entry)) (now (list .entry))) ⌝ }
+{
+    let w = bus::wire(state, pins, banks);
+    let pc = state::pc_of(state);
+    let opcode = bus::look(state, w, image, pc);
+    let entry = decode::entry_of(opcode);
+    if entry == 255 {
+        return StepAnswer::Refused(Refusal::Undefined {
+            pc: pc,
+            opcode: opcode,
+        });
+    }
+    let count = execute(opcode, entry, pc, state, w, image, list);
+    close(state, lines, count);
+    StepAnswer::Stepped(count as u8)
 }

@@ -1,0 +1,77 @@
+// What a step refuses before it looks at the program: "record malformed", "image length", lines and pins.
+
+ghost use mathlib.Core.Path.{_≡_};
+ghost use lib.ListN.{length};
+ghost use Rattle.rules.specs.Record.{wellFormed, flagsFit};
+ghost use Rattle.rules.specs.Step.{linesFit};
+ghost use Rattle.checks.specs.Checks.{restFits, banksFor};
+
+// "P is N V 1 0 D I Z C": bit 5 is 1, bit 4 is 0.
+fn flags_fit(p: u8) -> bool
+    ensures { λ r. ⌜ r ≡ flagsFit p ⌝ }
+{
+    p / 16 % 4 == 2
+}
+
+// "Bytes 8, 9 are 0 on the 6502, at most 15 on the 6509. Byte 10 is 0 on the 6508, byte 11 is 0 on the 6509." A sum is 0 where each part of it is.
+fn rest_fits(part: u8, first: u8, second: u8, level: u8, pages: u8) -> bool
+    ensures { λ r. ⌜ r ≡ restFits part first second level pages ⌝ }
+{
+    if part == 2 {
+        return first as u16 + second as u16 + (level / 2) as u16 == 0;
+    }
+    if part == 8 {
+        return level == 0;
+    }
+    if part == 9 {
+        return (first / 16) as u16 + (second / 16) as u16 + (level / 2) as u16 + pages as u16 == 0;
+    }
+    false
+}
+
+pub fn well_formed(state: &[u8]) -> bool
+    requires { ⌜ length (now state) ≡ 16 ⌝ }
+    ensures { λ r. ⌜ r ≡ wellFormed (now (state .entry)) ⌝ }
+{
+    if flags_fit(state[5]) {
+        return rest_fits(state[0], state[8], state[9], state[10], state[11]);
+    }
+    false
+}
+
+// "The image is 65,536 bytes; for the 6509, k banks of that size, k = 1, 2, 4, 8 or 16"; 0 for any other length.
+pub fn banks_of(part: u8, size: usize) -> u8
+    ensures { λ r. ⌜ r ≡ banksFor part size ⌝ }
+{
+    if size == 65536 {
+        return 1;
+    }
+    if part == 9 {
+        if size == 131072 {
+            return 2;
+        }
+        if size == 262144 {
+            return 4;
+        }
+        if size == 524288 {
+            return 8;
+        }
+        if size == 1048576 {
+            return 16;
+        }
+    }
+    0
+}
+
+// "line bits 3 to 7 set; NMI on 6508; pins not 0 off the 6508"
+pub fn lines_fit(part: u8, lines: u8, pins: u8) -> bool
+    ensures { λ r. ⌜ r ≡ linesFit part lines pins ⌝ }
+{
+    if lines < 8 {
+        if part == 8 {
+            return lines / 2 % 2 != 1;
+        }
+        return pins == 0;
+    }
+    false
+}
