@@ -1,10 +1,11 @@
 -- A step's accesses made and its record closed are what the rules' step leaves.
-use Prim.Native.Nat.{ℕ, _+_, _*_, _%_, _≤_, _<_}
+use Prim.Native.Nat.{ℕ, _+_, _*_, _/_, _%_, _≤_, _<_}
 use native.Mathlib.Omega.{arith}
 use mathlib.Core.Path.{_≡_, refl, sym, ap, _∙_}
-use mathlib.Core.Bool.{Bool, true, false, not}
+use mathlib.Core.Bool.{Bool, true, false, not, _||_, false≢true}
 use mathlib.Core.List.{List, _++_}
-use borrow.Author.Tests.{eq-eqb, ne-eqb}
+use borrow.Author.Tests.{eqb-true, eq-eqb, ne-eqb, le-leb}
+use lib.Dec.{eqb}
 use lib.ListN.{length, take, drop}
 use lib.Seq.{sets, sets-eq}
 use Rattle.rules.specs.declared.State.{State}
@@ -15,13 +16,18 @@ use Rattle.rules.specs.Cycles.{Cycles, Access}
 use Rattle.rules.specs.Opcodes.{decode, isDefined}
 use Rattle.decode.specs.Numbers.{numberOf}
 use Rattle.decode.proofs.Decodes.{defined-is}
-use Rattle.rules.specs.Interrupts.{Event, nmiOf, cyclesOf}
-use Rattle.rules.specs.Bus.{images, listOf}
-use Rattle.rules.specs.Record.{recordOf}
-use Rattle.rules.specs.Step.{busAt, front, ranOf, finished}
+use Rattle.rules.specs.Interrupts.{Event, res, nmi, irq, execute, nmiOf, cyclesOf, interrupt}
+use Rattle.rules.specs.Bus.{is6502, is6508, is6509, images, listOf}
+use Rattle.rules.specs.Record.{stateOf, recordOf, wellFormed, partFits}
+use Rattle.rules.specs.Step.{busAt, front, ranOf, finished, canStep, imageFits, banksIn, linesFit, stateNow, eventNow, step}
+use Rattle.rules.specs.Basics.{if_then_else_, at}
 use Rattle.rules.proofs.Steps.{list-length}
+use Rattle.rules.proofs.Records.{formed, written-again}
+use Rattle.bus.specs.Wiring.{Part, the6502, the6508, the6509}
 use Rattle.bus.specs.Goes.{Does, moved}
-use Rattle.step.specs.Parts.{closed, left}
+use Rattle.step.specs.Parts.{vectorOf, closed, left, advanced, Begins}
+use Rattle.checks.specs.Checks.{banksFor}
+use Rattle.rules.proofs.Tests.{and-right}
 
 front-is : (made : List Access) (l : List ℕ) → length made ≤ 7 → 56 ≤ length l → front (listOf made) l ≡ sets l 0 (listOf made)
 front-is made l n room =
@@ -38,11 +44,11 @@ finishes e lines n u {l = l} p q d most room h =
     let c : length (g .made) ≡ n = omega (arith, g .count) in
     rw (p, q, g .ran, c, front-is (g .made) l (omega (arith, g .count)) room, g .listed, h)
 
-flipped : (b : Bool) → true ≡ not b → b ≡ false
+pub flipped : (b : Bool) → true ≡ not b → b ≡ false
 flipped true h = h
 flipped false h = refl
 
-flopped : (b : Bool) → false ≡ not b → b ≡ true
+pub flopped : (b : Bool) → false ≡ not b → b ≡ true
 flopped true h = refl
 flopped false h = h
 
@@ -52,3 +58,79 @@ undefined-at n k h e q = flipped _ (sym (eq-eqb k 255 q) ∙ (rw e (defined-is n
 
 pub defined-at : (n k : ℕ) → n < 256 → k ≡ numberOf (decode n) → (k ≡ 255 → ⊥) → isDefined (decode n) ≡ true
 defined-at n k h e q = flopped _ (sym (ne-eqb k 255 q) ∙ (rw e (defined-is n h)))
+
+-- Which event a vector stands for.
+
+pub at-reset : (e : Event) → vectorOf e ≡ 65532 → e ≡ res
+at-reset res h = refl
+at-reset nmi h = absurd (omega (arith, h))
+at-reset irq h = absurd (omega (arith, h))
+at-reset execute h = absurd (omega (arith, h))
+
+pub at-none : (e : Event) → vectorOf e ≡ 0 → e ≡ execute
+at-none res h = absurd (omega (arith, h))
+at-none nmi h = absurd (omega (arith, h))
+at-none irq h = absurd (omega (arith, h))
+at-none execute h = refl
+
+pub at-vector : (e : Event) (v : ℕ) (u : State) → v ≡ vectorOf e → (v ≡ 65532 → ⊥) → (v ≡ 0 → ⊥) →
+    (cyclesOf e (u .cpu) ≡ interrupt v (u .cpu)) × (busAt e (u .bus) ≡ u .bus)
+unfolding cyclesOf
+at-vector res v u e p q = absurd (p e)
+at-vector nmi v u e p q = (rw e, refl)
+at-vector irq v u e p q = (rw e, refl)
+at-vector execute v u e p q = absurd (q e)
+
+pub can-step : (e : Event) (v : ℕ) (u : State) (m : List ℕ) → v ≡ vectorOf e → (v ≡ 0 → ⊥) → canStep images e u m ≡ true
+can-step res v u m e q = refl
+can-step nmi v u m e q = refl
+can-step irq v u m e q = refl
+can-step execute v u m e q = absurd (q e)
+
+-- "part (02, 08, 09)"
+part-of : (n : ℕ) → partFits n ≡ true → Part n
+part-of n h = go (is6502 n) (is6508 n) (is6509 n) refl refl refl h
+  where
+    go : (a b c : Bool) → is6502 n ≡ a → is6508 n ≡ b → is6509 n ≡ c → (a || b || c) ≡ true → Part n
+    go true b c p q r h = the6502 (eqb-true n 2 p)
+    go false true c p q r h = the6508 (eqb-true n 8 q)
+    go false false true p q r h = the6509 (eqb-true n 9 r)
+    go false false false p q r h = absurd (false≢true h)
+
+-- a well-formed record stands for the state that it is read as
+pub begins : (r : List ℕ) (p k n : ℕ) → n ≡ k → length r ≡ 16 → ((j : ℕ) → at r j < 256) → wellFormed r ≡ true → Begins (stateOf r p k) r p n
+unfolding stateOf
+begins r p k n e long small h =
+    let f = formed r h in
+    record {
+      bytes = sym (written-again r p k long small h);
+      sound = record { part = part-of (at r 0) (f .part); small = f .first; pages = small 11 };
+      pins = refl;
+      banks = sym e;
+    }
+
+-- the banks of an image that fits
+pub banks-in : (part n k : ℕ) → k ≡ banksFor part n → (k ≡ 0 → ⊥) → (imageFits part n ≡ true) × (k ≡ banksIn n)
+banks-in part n k e h = go (imageFits part n) refl e
+  where
+    go : (b : Bool) → imageFits part n ≡ b → k ≡ (if b then banksIn n else 0) → (imageFits part n ≡ true) × (k ≡ banksIn n)
+    go true q d = (q, d)
+    go false q d = absurd (h d)
+
+pub banks-out : (part n k : ℕ) → k ≡ banksFor part n → k ≡ 0 → imageFits part n ≡ false
+banks-out part n k e h = go (imageFits part n) refl (sym e ∙ h)
+  where
+    -- an image that fits has banks
+    some : imageFits part n ≡ true → n / 65536 ≡ 0 → ⊥
+    some q z = false≢true (and-right (is6509 part) false (rw z at (and-right (eqb (n % 65536) 0) _ q)))
+
+    go : (b : Bool) → imageFits part n ≡ b → (if b then banksIn n else 0) ≡ 0 → imageFits part n ≡ false
+    go true q d = absurd (some q d)
+    go false q d = q
+
+-- the tests passed, only an undefined opcode is left to refuse
+pub all-passed : (r m l : List ℕ) (lines pins : ℕ) → length r ≡ 16 → wellFormed r ≡ true → imageFits (at r 0) (length m) ≡ true →
+    linesFit (at r 0) lines pins ≡ true → 56 ≤ length l →
+    step images r m lines pins l ≡ advanced (eventNow images r m lines pins) lines (stateNow images r m lines pins) r m l
+unfolding step
+all-passed r m l lines pins a b c d e = rw (eq-eqb (length r) 16 a, b, c, d, le-leb 56 (length l) e)

@@ -16,7 +16,7 @@ ghost use Rattle.rules.specs.Operations.{instruction};
 ghost use Rattle.rules.specs.Interrupts.{irqOf, Event, res, irq, execute, eventOf, cyclesOf, interrupt, reset};
 ghost use Rattle.rules.specs.Bus.{world, images, look, resetBus};
 ghost use Rattle.rules.specs.Record.{long, stateOf, recordOf, wellFormed};
-ghost use Rattle.rules.specs.Step.{busAt, ranOf, finished};
+ghost use Rattle.rules.specs.Step.{busAt, ranOf, finished, step};
 ghost use Rattle.decode.specs.Numbers.{numberOf};
 ghost use Rattle.bus.specs.Wiring.{Sound, Stands, Ready};
 ghost use Rattle.bus.specs.Goes.{moved, Does};
@@ -24,7 +24,7 @@ ghost use Rattle.step.specs.Parts.{vectorOf, closed, resetOf, left, adva
 
 // "IRQ with I = 0"
 fn irq_vector(lines: u8, i: bool) -> u16
-    ensures { λ r. ⌜ r ≡ vectorOf (if irqOf lines && not i then irq else execute) ⌝ }
+    ensures { λ r. ⌜ (r < 65535) × (r ≡ vectorOf (if irqOf lines && not i then irq else execute)) ⌝ }
 {
     if lines / 4 % 2 == 1 {
         if i {
@@ -37,7 +37,7 @@ fn irq_vector(lines: u8, i: bool) -> u16
 
 // "First that applies: RES; NMI asserted with last level 0; IRQ with I = 0; else the instruction at PC."
 fn vector_of(lines: u8, level: u8, i: bool) -> u16
-    ensures { λ r. ⌜ ((s : State) → i ≡ s .cpu .p .i → r ≡ vectorOf (eventOf lines (eqb level 1) (s .cpu))) ⌝ }
+    ensures { λ r. ⌜ (r < 65535) × ((s : State) → i ≡ s .cpu .p .i → r ≡ vectorOf (eventOf lines (eqb level 1) (s .cpu))) ⌝ }
 {
     if lines / 1 % 2 == 1 {
         return 65532;
@@ -53,7 +53,7 @@ fn vector_of(lines: u8, level: u8, i: bool) -> u16
 
 fn vector_in(lines: u8, state: &[u8]) -> u16
     requires { ⌜ length (now state) ≡ 16 ⌝ }
-    ensures { λ r. ⌜ ((s : State) → now (state .entry) ≡ recordOf s → r ≡ vectorOf (eventOf lines (s .nmi) (s .cpu))) ⌝ }
+    ensures { λ r. ⌜ (r < 65535) × ((s : State) → now (state .entry) ≡ recordOf s → r ≡ vectorOf (eventOf lines (s .nmi) (s .cpu))) ⌝ }
 {
     if lines == 0 {
         return 0;
@@ -189,4 +189,50 @@ fn run_instruction(
     let count = execute(opcode, entry, pc, state, w, image, list);
     close(state, lines, count);
     StepAnswer::Stepped(count as u8)
+}
+
+// What a step does once nothing but an undefined opcode can refuse it.
+fn run(
+    state: &mut [u8],
+    image: &mut [u8],
+    lines: u8,
+    pins: u8,
+    list: &mut [u8],
+    banks: u8,
+) -> StepAnswer
+    requires { ⌜ ((length (now state) ≡ 16) × (56 ≤ length (now list))) × ((1 ≤ banks) × (banks * 65536 ≤ length (now image))) ⌝ }
+    ensures { λ r. ⌜ ((u : State) → Begins u (now (state .entry)) pins banks → left r (now (state .exit)) (now (image .exit)) (now (list .exit)) ≡ advanced (eventOf lines (u .nmi) (u .cpu)) lines u (now (state .entry)) (now (image .entry)) (now (list .entry))) ⌝ }
+{
+    let vector = vector_in(lines, state);
+    if vector == 65532 {
+        return run_reset(state, image, lines, pins, list, banks);
+    }
+    if vector == 0 {
+        return run_instruction(state, image, lines, pins, list, banks);
+    }
+    run_interrupt(vector, state, image, lines, pins, list, banks)
+}
+
+// One step: "1 to 6 in order; 6 adds PC and opcode; no byte moves".
+pub fn step(state: &mut [u8], image: &mut [u8], lines: u8, pins: u8, list: &mut [u8]) -> StepAnswer
+    ensures { λ r. ⌜ left r (now (state .exit)) (now (image .exit)) (now (list .exit)) ≡ step images (now (state .entry)) (now (image .entry)) lines pins (now (list .entry)) ⌝ }
+{
+    if state.len() != 16 {
+        return StepAnswer::Refused(Refusal::RecordLength);
+    }
+    if !checks::well_formed(state) {
+        return StepAnswer::Refused(Refusal::Malformed);
+    }
+    let part = state[0];
+    let banks = checks::banks_of(part, image.len());
+    if banks == 0 {
+        return StepAnswer::Refused(Refusal::ImageLength);
+    }
+    if !checks::lines_fit(part, lines, pins) {
+        return StepAnswer::Refused(Refusal::Lines);
+    }
+    if list.len() < 56 {
+        return StepAnswer::Refused(Refusal::Room);
+    }
+    run(state, image, lines, pins, list, banks)
 }
