@@ -2,24 +2,35 @@
 
 use rules::Refusal;
 use rules::StepAnswer;
+ghost use mathlib.Core.Path.{_≡_};
+ghost use Rattle.rules.specs.Answers.{packed, refusalWord, stepWord};
+ghost use Rattle.rules.specs.Bus.{images};
+ghost use Rattle.rules.specs.Step.{step};
+ghost use Rattle.step.specs.Parts.{left};
+ghost use Rattle.board.specs.Words.{worded};
 
-fn packed(number: u8, small: u8, large: u16) -> u64 {
+// "bits 0..7 the refusal's number", 8..15 a small detail, from 16 on a large one.
+fn packed(number: u8, small: u8, large: u16) -> u64
+    ensures { λ r. ⌜ r ≡ packed (record { number = number; small = small; large = large }) ⌝ }
+{
     number as u64 + 256 * small as u64 + 65536 * large as u64
 }
 
-fn refusal_word(e: Refusal) -> u64 {
+fn refusal_word(e: Refusal) -> u64
+    ensures { λ r. ⌜ r ≡ refusalWord e ⌝ }
+{
     match e {
-        Refusal::RecordLength => 1,
-        Refusal::Malformed => 2,
-        Refusal::ImageLength => 3,
-        Refusal::Lines => 4,
-        Refusal::Room => 5,
+        Refusal::RecordLength => packed(1, 0, 0),
+        Refusal::Malformed => packed(2, 0, 0),
+        Refusal::ImageLength => packed(3, 0, 0),
+        Refusal::Lines => packed(4, 0, 0),
+        Refusal::Room => packed(5, 0, 0),
         Refusal::Undefined { pc, opcode } => packed(6, opcode, pc),
-        Refusal::ScriptLength => 7,
-        Refusal::FileLength => 8,
-        Refusal::Admission => 10,
+        Refusal::ScriptLength => packed(7, 0, 0),
+        Refusal::FileLength => packed(8, 0, 0),
+        Refusal::Admission => packed(10, 0, 0),
         Refusal::MapRecord(i) => packed(11, 0, i),
-        Refusal::Vectors => 12,
+        Refusal::Vectors => packed(12, 0, 0),
         Refusal::Place(i) => packed(13, 0, i),
         Refusal::StoreAddress(i) => packed(14, 0, i),
         Refusal::Stack(i) => packed(15, 0, i),
@@ -27,7 +38,9 @@ fn refusal_word(e: Refusal) -> u64 {
     }
 }
 
-fn step_word(a: StepAnswer) -> u64 {
+fn step_word(a: StepAnswer) -> u64
+    ensures { λ r. ⌜ r ≡ stepWord a ⌝ }
+{
     match a {
         StepAnswer::Stepped(n) => packed(0, n, 0),
         StepAnswer::Refused(e) => refusal_word(e),
@@ -36,11 +49,13 @@ fn step_word(a: StepAnswer) -> u64 {
 
 #[no_mangle]
 pub extern "C" fn wankitare_step(
-    record: &mut [u8],
+    state: &mut [u8],
     image: &mut [u8],
     lines: u8,
     pins: u8,
     accesses: &mut [u8],
-) -> u64 {
-    step_word(step::step(record, image, lines, pins, accesses))
+) -> u64
+    ensures { λ r. ⌜ left r (now (state .exit)) (now (image .exit)) (now (accesses .exit)) ≡ worded (step images (now (state .entry)) (now (image .entry)) lines pins (now (accesses .entry))) ⌝ }
+{
+    step_word(step::step(state, image, lines, pins, accesses))
 }
