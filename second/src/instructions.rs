@@ -1,0 +1,324 @@
+//! What the opcodes do: the bus cycles after the fetch, in the order of time.
+
+use crate::core::{Core, IRQ_VECTOR};
+use crate::record::{BIT_4, BIT_5, C, N, V, Z};
+
+#[derive(Clone, Copy)]
+pub enum Mode {
+    Immediate,
+    Zero,
+    ZeroX,
+    ZeroY,
+    Absolute,
+    AbsoluteX,
+    AbsoluteY,
+    /// (z,X)
+    IndirectX,
+    /// (z),Y
+    IndirectY,
+    /// (z),Y of B1 and 91, whose accesses after the pointer use the 6509's indirect bank.
+    BankedY,
+}
+
+use Mode::*;
+
+/// `early` is the read at the old page with the summed low byte, which a,X, a,Y and (z),Y begin with.
+struct Place {
+    early: Option<u16>,
+    data: u16,
+}
+
+fn plain(data: u16) -> Place {
+    Place { early: None, data }
+}
+
+fn indexed(base: u16, index: u8) -> Place {
+    let data = base.wrapping_add(u16::from(index));
+    Place {
+        early: Some(base & 0xFF00 | data & 0x00FF),
+        data,
+    }
+}
+
+impl Core<'_> {
+    fn place(&mut self, mode: Mode) -> Place {
+        match mode {
+            Immediate => {
+                let operand = self.pc;
+                self.pc = self.pc.wrapping_add(1);
+                plain(operand)
+            }
+            Zero => plain(u16::from(self.fetch())),
+            ZeroX => self.zero_page(self.x),
+            ZeroY => self.zero_page(self.y),
+            Absolute => plain(self.fetch_word()),
+            AbsoluteX => indexed(self.fetch_word(), self.x),
+            AbsoluteY => indexed(self.fetch_word(), self.y),
+            IndirectX => {
+                let unindexed = self.fetch();
+                self.read(u16::from(unindexed));
+                plain(self.pointer(unindexed.wrapping_add(self.x)))
+            }
+            IndirectY => self.indirect_y(),
+            BankedY => {
+                let place = self.indirect_y();
+                self.bus.indirect = true;
+                place
+            }
+        }
+    }
+
+    fn zero_page(&mut self, index: u8) -> Place {
+        let unindexed = self.fetch();
+        self.read(u16::from(unindexed));
+        plain(u16::from(unindexed.wrapping_add(index)))
+    }
+
+    fn indirect_y(&mut self) -> Place {
+        let z = self.fetch();
+        indexed(self.pointer(z), self.y)
+    }
+
+    /// Both bytes lie in page zero.
+    fn pointer(&mut self, z: u8) -> u16 {
+        let low = self.read(u16::from(z));
+        let high = self.read(u16::from(z.wrapping_add(1)));
+        u16::from_le_bytes([low, high])
+    }
+
+    fn load(&mut self, mode: Mode) -> u8 {
+        let place = self.place(mode);
+        match place.early {
+            Some(early) => {
+                let value = self.read(early);
+                if early == place.data {
+                    value
+                } else {
+                    self.read(place.data)
+                }
+            }
+            None => self.read(place.data),
+        }
+    }
+
+    /// Stores, shifts, INC and DEC never stop at the early read.
+    fn target(&mut self, mode: Mode) -> u16 {
+        let place = self.place(mode);
+        if let Some(early) = place.early {
+            self.read(early);
+        }
+        place.data
+    }
+
+    pub fn store(&mut self, mode: Mode, value: u8) {
+        let address = self.target(mode);
+        self.write(address, value);
+    }
+
+    pub fn change(&mut self, mode: Mode, change: fn(&mut Self, u8) -> u8) {
+        let address = self.target(mode);
+        let value = self.read(address);
+        self.write(address, value);
+        let result = change(self, value);
+        self.write(address, result);
+    }
+
+    pub fn change_a(&mut self, change: fn(&mut Self, u8) -> u8) {
+        self.implied();
+        let value = self.a;
+        self.a = change(self, value);
+    }
+
+    pub fn implied(&mut self) {
+        self.read(self.pc);
+    }
+
+    pub fn lda(&mut self, mode: Mode) {
+        self.a = self.load(mode);
+        self.set_nz(self.a);
+    }
+
+    pub fn ldx(&mut self, mode: Mode) {
+        self.x = self.load(mode);
+        self.set_nz(self.x);
+    }
+
+    pub fn ldy(&mut self, mode: Mode) {
+        self.y = self.load(mode);
+        self.set_nz(self.y);
+    }
+
+    pub fn ora(&mut self, mode: Mode) {
+        self.a |= self.load(mode);
+        self.set_nz(self.a);
+    }
+
+    pub fn and(&mut self, mode: Mode) {
+        self.a &= self.load(mode);
+        self.set_nz(self.a);
+    }
+
+    pub fn eor(&mut self, mode: Mode) {
+        self.a ^= self.load(mode);
+        self.set_nz(self.a);
+    }
+
+    pub fn adc(&mut self, mode: Mode) {
+        let value = self.load(mode);
+        self.add(value);
+    }
+
+    pub fn sbc(&mut self, mode: Mode) {
+        let value = self.load(mode);
+        self.subtract(value);
+    }
+
+    pub fn compare(&mut self, register: u8, mode: Mode) {
+        let value = self.load(mode);
+        self.set_nz(register.wrapping_sub(value));
+        self.set(C, register >= value);
+    }
+
+    pub fn bit(&mut self, mode: Mode) {
+        let value = self.load(mode);
+        self.set(N, value & N != 0);
+        self.set(V, value & V != 0);
+        self.set(Z, value & self.a == 0);
+    }
+
+    pub fn asl(&mut self, value: u8) -> u8 {
+        self.shifted(value << 1, value & 0x80 != 0)
+    }
+
+    pub fn rol(&mut self, value: u8) -> u8 {
+        self.shifted(value << 1 | u8::from(self.has(C)), value & 0x80 != 0)
+    }
+
+    pub fn lsr(&mut self, value: u8) -> u8 {
+        self.shifted(value >> 1, value & 0x01 != 0)
+    }
+
+    pub fn ror(&mut self, value: u8) -> u8 {
+        self.shifted(value >> 1 | u8::from(self.has(C)) << 7, value & 0x01 != 0)
+    }
+
+    fn shifted(&mut self, result: u8, carry: bool) -> u8 {
+        self.set_nz(result);
+        self.set(C, carry);
+        result
+    }
+
+    pub fn increment(&mut self, value: u8) -> u8 {
+        self.set_nz(value.wrapping_add(1));
+        value.wrapping_add(1)
+    }
+
+    pub fn decrement(&mut self, value: u8) -> u8 {
+        self.set_nz(value.wrapping_sub(1));
+        value.wrapping_sub(1)
+    }
+
+    /// A crossing is judged from the next instruction's address, not from the branch's own.
+    pub fn branch(&mut self, taken: bool) {
+        let offset = self.fetch() as i8;
+        if taken {
+            self.read(self.pc);
+            let target = self.pc.wrapping_add(offset as u16);
+            if target >> 8 != self.pc >> 8 {
+                self.read(self.pc & 0xFF00 | target & 0x00FF);
+            }
+            self.pc = target;
+        }
+    }
+
+    pub fn jmp(&mut self) {
+        self.pc = self.fetch_word();
+    }
+
+    /// The high byte comes from the next location, in the next page after a pointer at a page's end.
+    pub fn jmp_indirect(&mut self) {
+        let pointer = self.fetch_word();
+        self.pc = self.read_word(pointer);
+    }
+
+    /// The pushes come before the high operand is read, and may have changed it.
+    pub fn jsr(&mut self) {
+        let low = self.fetch();
+        self.read_stack();
+        self.push_pc();
+        let high = self.fetch();
+        self.pc = u16::from_le_bytes([low, high]);
+    }
+
+    pub fn rts(&mut self) {
+        self.implied();
+        self.read_stack();
+        self.pc = self.pull_word();
+        self.fetch();
+    }
+
+    pub fn rti(&mut self) {
+        self.implied();
+        self.read_stack();
+        self.p = self.pull() & !BIT_4 | BIT_5;
+        self.pc = self.pull_word();
+    }
+
+    pub fn brk(&mut self) {
+        self.fetch();
+        self.push_pc();
+        self.push(self.p | BIT_4);
+        self.enter(IRQ_VECTOR);
+    }
+
+    pub fn php(&mut self) {
+        self.implied();
+        self.push(self.p | BIT_4 | BIT_5);
+    }
+
+    pub fn plp(&mut self) {
+        self.implied();
+        self.read_stack();
+        self.p = self.pull() & !BIT_4 | BIT_5;
+    }
+
+    pub fn pha(&mut self) {
+        self.implied();
+        self.push(self.a);
+    }
+
+    pub fn pla(&mut self) {
+        self.implied();
+        self.read_stack();
+        self.a = self.pull();
+        self.set_nz(self.a);
+    }
+
+    pub fn flag(&mut self, flag: u8, on: bool) {
+        self.implied();
+        self.set(flag, on);
+    }
+
+    pub fn put_a(&mut self, value: u8) {
+        self.implied();
+        self.a = value;
+        self.set_nz(value);
+    }
+
+    pub fn put_x(&mut self, value: u8) {
+        self.implied();
+        self.x = value;
+        self.set_nz(value);
+    }
+
+    pub fn put_y(&mut self, value: u8) {
+        self.implied();
+        self.y = value;
+        self.set_nz(value);
+    }
+
+    pub fn txs(&mut self) {
+        self.implied();
+        self.s = self.x;
+    }
+}

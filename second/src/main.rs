@@ -1,0 +1,102 @@
+//! The second program: document 01's rules once more, and what holds a core to them.
+
+mod arithmetic;
+mod bench;
+mod bus;
+mod cases;
+mod compare;
+mod core;
+mod cores;
+mod coverage;
+mod examples;
+mod instructions;
+mod opcodes;
+mod program;
+mod random;
+mod record;
+
+use std::process::exit;
+use std::time::{SystemTime, UNIX_EPOCH};
+
+const USAGE: &str = "usage:
+  second compare --steps N [--seed S] [--core CORE]
+  second arithmetic [--core CORE]
+  second examples [--core CORE]
+  second bench
+
+CORE is archive, yardstick or per-part. Without it, compare and arithmetic take the archive, or the yardstick
+where the program was built without one, and examples takes every core.";
+
+struct Options {
+    steps: Option<u64>,
+    seed: Option<u64>,
+    core: Option<cores::Tested>,
+}
+
+fn main() {
+    let arguments: Vec<String> = std::env::args().skip(1).collect();
+    let (command, rest) = match arguments.split_first() {
+        Some(split) => split,
+        None => fail(USAGE),
+    };
+    let options = read_options(rest);
+    let core = options.core.unwrap_or(cores::all()[0]);
+    let passed = match (command.as_str(), options.steps) {
+        ("compare", Some(steps)) => {
+            compare::compare(core, steps, options.seed.unwrap_or_else(seed_from_time))
+        }
+        ("arithmetic", None) => arithmetic::arithmetic(core),
+        ("examples", None) => match options.core {
+            Some(core) => examples::examples(&[core]),
+            None => examples::examples(cores::all()),
+        },
+        ("bench", None) => bench::bench(),
+        _ => fail(USAGE),
+    };
+    if !passed {
+        exit(1);
+    }
+}
+
+fn read_options(arguments: &[String]) -> Options {
+    let mut options = Options {
+        steps: None,
+        seed: None,
+        core: None,
+    };
+    for pair in arguments.chunks(2) {
+        let (name, value) = match pair {
+            [name, value] => (name.as_str(), value),
+            _ => fail(USAGE),
+        };
+        match name {
+            "--steps" => options.steps = Some(number(value)),
+            "--seed" => options.seed = Some(number(value)),
+            "--core" => match cores::named(value) {
+                Some(core) => options.core = Some(core),
+                None => fail("this program was not built with such a core"),
+            },
+            _ => fail(USAGE),
+        }
+    }
+    options
+}
+
+fn number(text: &str) -> u64 {
+    match text.replace('_', "").parse() {
+        Ok(number) => number,
+        Err(_) => fail(USAGE),
+    }
+}
+
+fn seed_from_time() -> u64 {
+    match SystemTime::now().duration_since(UNIX_EPOCH) {
+        Ok(time) => time.as_nanos() as u64,
+        Err(_) => 0,
+    }
+}
+
+fn fail(message: &str) -> ! {
+    eprintln!("{}", message);
+    exit(2);
+}
