@@ -6,7 +6,6 @@ ghost use Prim.Native.Nat.{_+_, _*_, _≤_, _<_};
 ghost use mathlib.Core.Path.{_≡_};
 ghost use lib.ListN.{length};
 ghost use Rattle.rules.specs.declared.State.{State};
-ghost use Rattle.rules.specs.Basics.{sum8, sum16};
 ghost use Rattle.rules.specs.Cycles.{Bank, execution};
 ghost use Rattle.rules.specs.Addressing.{oldPage, pointer, zeroIndexed, indexedPointer, loadIndexed, indexed, load, place};
 ghost use Rattle.bus.specs.Wiring.{Stands, Ready};
@@ -29,17 +28,11 @@ pub struct Spot {
     pub count: usize,
 }
 
-fn join(low: u8, high: u8) -> u16
-    ensures { λ r. ⌜ r ≡ high * 256 + low ⌝ }
-{
-    high as u16 * 256 + low as u16
-}
-
 // "the old page with the summed low byte"
 fn old_page(a: u16, i: u8) -> u16
     ensures { λ r. ⌜ r ≡ oldPage a i ⌝ }
 {
-    join(
+    arithmetic::join(
         std::num::wrapping_add_u8((a % 256) as u8, i),
         (a / 256) as u8,
     )
@@ -53,7 +46,7 @@ fn pointer(state: &[u8], w: Wiring, image: &[u8], list: &mut [u8], k: usize, z: 
     let next = std::num::wrapping_add_u8(z, 1) as u16;
     let low = bus::read(state, w, image, list, k, z as u16);
     let high = bus::read(state, w, image, list, k + 1, next);
-    join(low, high)
+    arithmetic::join(low, high)
 }
 
 // "read the unindexed zero-page address"

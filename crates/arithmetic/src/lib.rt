@@ -2,7 +2,7 @@
 
 ghost use Prim.Native.Nat.{_+_, _-_, _≤_, _<_};
 ghost use mathlib.Core.Path.{_≡_};
-ghost use Rattle.rules.specs.Basics.{bit, bitOf};
+ghost use Rattle.rules.specs.Basics.{bit, bitOf, address};
 ghost use Rattle.rules.specs.Flags.{flagsOf, byteOf, nz, withC};
 ghost use Rattle.rules.specs.Arithmetic.{signed, leaves, binaryAdc, high, lowSum, highSum, decimalAdc, adc, lowDifference, highDifference, sbc, compare, bitTest, shifted, stepped, changed};
 use rules::Changing;
@@ -260,4 +260,11 @@ pub fn changed(o: Changing, v: u8, f: Flags) -> Result
         Changing::Dec => stepped(std::num::wrapping_sub_u8(v, 1), f),
         Changing::Inc => stepped(std::num::wrapping_add_u8(v, 1), f),
     }
+}
+
+// An address of its low and its high byte.
+pub fn join(low: u8, high: u8) -> u16
+    ensures { λ r. ⌜ r ≡ address low high ⌝ }
+{
+    high as u16 * 256 + low as u16
 }

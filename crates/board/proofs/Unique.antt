@@ -1,12 +1,10 @@
 -- No second answer fits the contract of `wankitare_step`, which is taken as it stands in the crate and is no copy; and what follows from it.
 use Prim.Native.Nat.{ℕ}
-use mathlib.Core.Path.{_≡_, sym, ap, _∙_}
-use mathlib.Core.List.{List}
+use mathlib.Core.Path.{_≡_, sym, _∙_}
 use contract.Lifetimes.{Lfts}
 use borrow.Fn.Kinds.{Dens, endedOf}
 use denote.Triple.Clauses.{AtExit}
 use denote.Ref.{now}
-use Rattle.rules.specs.Step.{Outcome}
 use Rattle.step.specs.Parts.{left}
 use Rattle.board.proofs.wankitare_step.Kinds as kinds
 use Rattle.board.proofs.wankitare_step.Reads as reads

@@ -6,9 +6,9 @@ use mathlib.Core.List.{List, [], _∷_, _++_}
 use lib.ListN.{length, set, length-append}
 use lib.Seq.{sets}
 use Rattle.rules.specs.declared.Bus.{Bus}
-use Rattle.rules.specs.Cycles.{Bank, Cycles, done, read, write, _>>=_, Access, Ran, run}
-use Rattle.rules.specs.Bus.{World, world, images, look, stored, selected, board, bytesOf, listOf}
-use Rattle.rules.proofs.Cycles.{run-bind, joined}
+use Rattle.rules.specs.Cycles.{Bank, Cycles, done, read, write, _>>=_, Access, run}
+use Rattle.rules.specs.Bus.{world, images, look, stored, selected, board, bytesOf, listOf}
+use Rattle.rules.proofs.Cycles.{run-bind}
 use Rattle.rules.specs.declared.Cpu.{Cpu}
 use Rattle.rules.specs.declared.State.{State}
 use Rattle.rules.specs.Record.{recordOf}

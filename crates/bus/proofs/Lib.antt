@@ -1,2 +1,2 @@
 pub mod Laws
-pub mod Looks
+pub mod Cells

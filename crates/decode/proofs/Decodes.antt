@@ -1,10 +1,10 @@
 -- The numbers keep what the opcodes say: each law is one computed claim on the table of 256.
 use Prim.Native.Nat.{ℕ, _<_}
 use mathlib.Core.Path.{_≡_, refl, sym, ap, _∙_}
-use mathlib.Core.Bool.{Bool, true, not, false≢true}
-use mathlib.Core.List.{List, map}
+use mathlib.Core.Bool.{true, not, false≢true}
+use mathlib.Core.List.{map}
 use lib.Dec.{eqb}
-use lib.ListN.{length, getD}
+use lib.ListN.{getD}
 use Rattle.rules.specs.declared.Instruction.{Instruction}
 use Rattle.rules.specs.declared.Instruction.the-variants.{Cli}
 use Rattle.rules.specs.Opcodes.{Entry, undefined, alone, byte, word, late, decode, isDefined, ofInstruction}

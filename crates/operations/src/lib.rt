@@ -10,7 +10,7 @@ ghost use mathlib.Core.Path.{_≡_};
 ghost use lib.ListN.{length};
 ghost use Rattle.rules.specs.Flags.{withV, withD, withI, withC};
 ghost use Rattle.rules.specs.Arithmetic.{changed};
-ghost use Rattle.rules.specs.Operations.{withP, withS, withResult, used, inside, taken};
+ghost use Rattle.rules.specs.Operations.{withResult, used, inside, taken};
 ghost use Rattle.state.specs.Makes.{Makes};
 
 const A: usize = 1;

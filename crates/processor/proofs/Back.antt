@@ -1,5 +1,5 @@
 -- A byte that is written back where it was read leaves the step's wiring as it was.
-use Prim.Native.Nat.{ℕ, _%_, _≤_}
+use Prim.Native.Nat.{ℕ}
 use native.Mathlib.Omega.{arith}
 use mathlib.Core.Path.{_≡_, refl, sym, ap, _∙_}
 use mathlib.Core.Bool.{Bool, true, false}
@@ -9,7 +9,7 @@ use Rattle.rules.specs.declared.Bus.{Bus}
 use Rattle.rules.specs.declared.Cpu.{Cpu}
 use Rattle.rules.specs.declared.State.{State}
 use Rattle.rules.specs.Basics.{if_then_else_}
-use Rattle.rules.specs.Cycles.{Bank, execution, Cycles, done, read, Ran, run}
+use Rattle.rules.specs.Cycles.{execution, Cycles, done, read, Ran, run}
 use Rattle.rules.specs.Bus.{World, world, images, Cell, first, second, byte, cellOf, held, kept, look, stored, selected, narrow, withRegisters, isProtected}
 use Rattle.rules.specs.Record.{registerFits}
 use Rattle.bus.specs.declared.Wiring.{Wiring}

@@ -1,14 +1,13 @@
 -- From the opcode to the instruction: the operand's accesses, by the entry.
-use Prim.Native.Nat.{ℕ, _+_, _%_, _<_}
+use Prim.Native.Nat.{ℕ, _<_}
 use native.Mathlib.Omega.{arith}
 use mathlib.Core.Path.{_≡_, refl, sym, ap, _∙_}
-use mathlib.Core.Bool.{Bool, true, false≢true}
+use mathlib.Core.Bool.{true, false≢true}
 use mathlib.Core.List.{List, map}
-use lib.ListN.{getD}
 use Rattle.rules.specs.declared.Instruction.{Instruction}
 use Rattle.rules.specs.declared.Instruction.the-variants.{Cli}
 use Rattle.rules.specs.declared.State.{State}
-use Rattle.rules.specs.Basics.{address, sum16}
+use Rattle.rules.specs.Basics.{sum16}
 use Rattle.rules.specs.Cycles.{execution, read, done, _>>=_}
 use Rattle.rules.specs.Opcodes.{Entry, undefined, alone, byte, word, late, decode, isDefined, ofInstruction}
 use Rattle.rules.specs.Table.{table}

@@ -1,5 +1,5 @@
 -- P leaves room for bit 4.
-use Prim.Native.Nat.{ℕ, _+_, _≤_}
+use Prim.Native.Nat.{_+_, _≤_}
 use native.Mathlib.Omega.{arith}
 use mathlib.Core.Bool.{Bool, true, false}
 use Rattle.rules.specs.declared.Flags.{Flags}

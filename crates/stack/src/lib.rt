@@ -2,7 +2,7 @@
 
 use bus::Wiring;
 use rules::Flags;
-ghost use Prim.Native.Nat.{_+_, _*_, _≤_, _<_};
+ghost use Prim.Native.Nat.{_+_, _*_, _<_};
 ghost use mathlib.Core.Path.{_≡_};
 ghost use lib.ListN.{length};
 ghost use Rattle.rules.specs.declared.Bus.{Bus};
@@ -16,12 +16,6 @@ ghost use Rattle.rules.specs.Basics.{sum8};
 ghost use Rattle.bus.specs.Wiring.{Wired, Stands, Ready};
 ghost use Rattle.bus.specs.Goes.{Goes, Does};
 ghost use Rattle.stack.specs.Words.{pulledAt, wordAt, pushThree, twoReads, threeReads};
-
-fn join(low: u8, high: u8) -> u16
-    ensures { λ r. ⌜ r ≡ high * 256 + low ⌝ }
-{
-    high as u16 * 256 + low as u16
-}
 
 fn stack(s: u8) -> u16
     ensures { λ r. ⌜ r ≡ stack s ⌝ }
@@ -54,7 +48,7 @@ pub fn jsr(low: u8, state: &mut [u8], w: Wiring, image: &mut [u8], list: &mut [u
     bus::read(state, w, image, list, 2, stack(s));
     push_pc(w, image, list, 3, pc, s);
     let high = bus::read(state, w, image, list, 5, pc);
-    state::set_s_pc(state, down(2, s), join(low, high));
+    state::set_s_pc(state, down(2, s), arithmetic::join(low, high));
 }
 
 // "Push: PC+1, write at S."
@@ -108,7 +102,7 @@ fn word_at(
 {
     let low = bus::read(state, w, image, list, k, one);
     let high = bus::read(state, w, image, list, k + 1, two);
-    join(low, high)
+    arithmetic::join(low, high)
 }
 
 // "RTS: PC+1, read at S, pull low, high, read there; PC is one more."

@@ -2,7 +2,7 @@
 
 use rules::Flags;
 use rules::Result;
-ghost use Prim.Native.Nat.{_+_, _*_, _≤_, _<_};
+ghost use Prim.Native.Nat.{_+_, _*_, _<_};
 ghost use mathlib.Core.Path.{_≡_};
 ghost use lib.ListN.{length, set};
 ghost use Rattle.rules.specs.declared.State.{State};
@@ -12,17 +12,11 @@ ghost use Rattle.bus.specs.Goes.{moved};
 ghost use Rattle.rules.specs.Operations.{withP, withS, withPc, withResult};
 ghost use Rattle.state.specs.Makes.{Makes};
 
-fn join(low: u8, high: u8) -> u16
-    ensures { λ r. ⌜ r ≡ high * 256 + low ⌝ }
-{
-    high as u16 * 256 + low as u16
-}
-
 pub fn pc_of(state: &[u8]) -> u16
     requires { ⌜ length (now state) ≡ 16 ⌝ }
     ensures { λ r. ⌜ ((s : State) → now (state .entry) ≡ recordOf s → r ≡ s .cpu .pc) ⌝ }
 {
-    join(state[6], state[7])
+    arithmetic::join(state[6], state[7])
 }
 
 pub fn s_of(state: &[u8]) -> u8

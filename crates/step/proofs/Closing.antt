@@ -1,12 +1,12 @@
 -- The count, the level and the registers of a reset.
-use Prim.Native.Nat.{ℕ, _+_, _*_, _/_, _%_, _<_, _≤_}
+use Prim.Native.Nat.{ℕ, _/_, _%_}
 use native.Mathlib.Omega.{arith}
 use mathlib.Core.Path.{_≡_, refl}
-use mathlib.Core.Bool.{Bool, true, false, not, _&&_}
-use borrow.Author.Tests.{eq-eqb, ne-eqb, eqb-true, eqb-false}
+use mathlib.Core.Bool.{Bool, true, false}
+use borrow.Author.Tests.{eqb-true, eqb-false}
 use lib.Dec.{eqb}
 use Rattle.rules.specs.declared.Bus.{Bus}
-use Rattle.rules.specs.Basics.{if_then_else_, bit}
+use Rattle.rules.specs.Basics.{bit}
 use Rattle.rules.specs.Bus.{resetBus}
 use Rattle.rules.specs.Record.{long}
 use Rattle.bus.specs.Wiring.{Sound, Part, the6502, the6508, the6509}

@@ -1,12 +1,12 @@
 -- A step's accesses made and its record closed are what the rules' step leaves.
-use Prim.Native.Nat.{ℕ, _+_, _*_, _/_, _%_, _≤_, _<_}
+use Prim.Native.Nat.{ℕ, _+_, _/_, _%_, _≤_, _<_}
 use native.Mathlib.Omega.{arith}
-use mathlib.Core.Path.{_≡_, refl, sym, ap, _∙_}
+use mathlib.Core.Path.{_≡_, refl, sym, _∙_}
 use mathlib.Core.Bool.{Bool, true, false, not, _||_, false≢true}
-use mathlib.Core.List.{List, _++_}
+use mathlib.Core.List.{List}
 use borrow.Author.Tests.{eqb-true, eq-eqb, ne-eqb, le-leb}
 use lib.Dec.{eqb}
-use lib.ListN.{length, take, drop}
+use lib.ListN.{length}
 use lib.Seq.{sets, sets-eq}
 use Rattle.rules.specs.declared.State.{State}
 use Rattle.rules.specs.declared.StepAnswer.the-variants.{Stepped}
@@ -16,7 +16,7 @@ use Rattle.rules.specs.Cycles.{Cycles, Access}
 use Rattle.rules.specs.Opcodes.{decode, isDefined}
 use Rattle.decode.specs.Numbers.{numberOf}
 use Rattle.decode.proofs.Decodes.{defined-is}
-use Rattle.rules.specs.Interrupts.{Event, res, nmi, irq, execute, nmiOf, cyclesOf, interrupt}
+use Rattle.rules.specs.Interrupts.{Event, res, nmi, irq, execute, cyclesOf, interrupt}
 use Rattle.rules.specs.Bus.{is6502, is6508, is6509, images, listOf}
 use Rattle.rules.specs.Record.{stateOf, recordOf, wellFormed, partFits}
 use Rattle.rules.specs.Step.{busAt, front, ranOf, finished, canStep, imageFits, banksIn, linesFit, stateNow, eventNow, step}

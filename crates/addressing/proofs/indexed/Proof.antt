@@ -1,5 +1,4 @@
 use Rattle.bus.proofs.Laws.{then-read, ended}
-use Rattle.rules.specs.Cycles.{execution}
 use Rattle.rules.specs.Addressing.{indexed}
 use borrow.Author.Needs.{needs}
 use Rattle.addressing.proofs.indexed.Statement.{statement}

@@ -1,4 +1,4 @@
-use Rattle.bus.proofs.Laws.{then-read, ended}
+use Rattle.bus.proofs.Laws.{then-read}
 use Rattle.rules.specs.Cycles.{execution, _>>=_}
 use Rattle.rules.specs.Addressing.{indexedPointer}
 use borrow.Author.Needs.{needs}

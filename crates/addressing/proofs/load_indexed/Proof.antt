@@ -1,5 +1,4 @@
-use Rattle.bus.proofs.Laws.{ended, then-read, then-call, counted, valued}
-use Rattle.rules.specs.Cycles.{execution, _>>=_}
+use Rattle.bus.proofs.Laws.{ended, then-read, counted}
 use native.Mathlib.Omega.{arith}
 use borrow.Author.Tests.{eq-eqb, ne-eqb}
 use Rattle.rules.specs.Addressing.{loadIndexed}

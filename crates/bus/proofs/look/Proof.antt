@@ -1,5 +1,5 @@
 use mathlib.Core.Path.{sym, _∙_}
-use Rattle.bus.proofs.Looks.{look-low, look-plain}
+use Rattle.bus.proofs.Cells.{look-low, look-plain}
 use borrow.Author.Needs.{needs}
 use Rattle.bus.proofs.look.Statement.{statement}
 use Rattle.bus.proofs.look.Tie as tie

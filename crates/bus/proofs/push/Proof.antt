@@ -1,7 +1,7 @@
 use native.Mathlib.Omega.{arith}
 use mathlib.Core.Path.{_∙_}
 use Rattle.bus.proofs.Laws.{writes}
-use Rattle.bus.proofs.Looks.{store-byte}
+use Rattle.bus.proofs.Cells.{store-byte}
 use borrow.Author.Needs.{needs}
 use Rattle.bus.proofs.push.Statement.{statement}
 use Rattle.bus.proofs.push.Tie as tie

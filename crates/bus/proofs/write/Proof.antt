@@ -1,5 +1,5 @@
 use native.Mathlib.Omega.{arith}
-use Rattle.bus.proofs.Looks.{write-register, write-byte, plain-above}
+use Rattle.bus.proofs.Cells.{write-register, write-byte, plain-above}
 use borrow.Author.Needs.{needs}
 use Rattle.bus.proofs.write.Statement.{statement}
 use Rattle.bus.proofs.write.Tie as tie

@@ -1,5 +1,4 @@
 use Rattle.state.proofs.Registers.{a-of}
-use Rattle.rules.specs.Record.{recordOf}
 use borrow.Author.Needs.{needs}
 use Rattle.operations.proofs.accumulated.Statement.{statement}
 use Rattle.operations.proofs.accumulated.Tie as tie

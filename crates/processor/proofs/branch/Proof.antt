@@ -1,8 +1,7 @@
-use Rattle.bus.proofs.Laws.{does, ended, then-read, then-write, then-call, counted, call-does, read-does}
-use Rattle.rules.specs.Cycles.{execution, done, _>>=_}
+use Rattle.bus.proofs.Laws.{does, ended, then-read}
+use Rattle.rules.specs.Cycles.{execution, _>>=_}
 use Rattle.rules.specs.Operations.{perform, branchTo}
 use native.Mathlib.Omega.{arith}
-use mathlib.Core.Path.{sym}
 use borrow.Author.Tests.{eq-eqb, ne-eqb}
 use borrow.Author.Needs.{needs}
 use Rattle.processor.proofs.branch.Statement.{statement}

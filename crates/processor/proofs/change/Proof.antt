@@ -1,6 +1,6 @@
-use Rattle.processor.proofs.Back.{looked, recounted, back}
-use Rattle.bus.proofs.Laws.{does, ended, then-read, then-write, then-call, counted, call-does, read-does}
-use Rattle.rules.specs.Cycles.{execution, done, _>>=_}
+use Rattle.processor.proofs.Back.{looked, recounted}
+use Rattle.bus.proofs.Laws.{call-does, read-does}
+use Rattle.rules.specs.Cycles.{execution, _>>=_}
 use Rattle.rules.specs.Operations.{perform}
 use native.Mathlib.Omega.{arith}
 use Rattle.processor.specs.Rewritten.{rewritten}

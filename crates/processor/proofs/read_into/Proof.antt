@@ -1,5 +1,5 @@
-use Rattle.bus.proofs.Laws.{does, ended, then-read, then-write, then-call, counted, call-does, read-does}
-use Rattle.rules.specs.Cycles.{execution, done, _>>=_}
+use Rattle.bus.proofs.Laws.{does, ended, then-call}
+use Rattle.rules.specs.Cycles.{done}
 use Rattle.rules.specs.Operations.{perform, used}
 use native.Mathlib.Omega.{arith}
 use borrow.Author.Needs.{needs}

@@ -1,8 +1,7 @@
 use mathlib.Core.Bool.{true}
-use Rattle.bus.proofs.Laws.{does, ended, then-read, then-write, then-call, then-do, counted, call-does, do-does, read-does}
-use Rattle.rules.specs.Cycles.{execution, done, _>>=_}
-use Rattle.rules.specs.Basics.{sum8}
-use Rattle.rules.specs.Flags.{flagsOf, withI}
+use Rattle.bus.proofs.Laws.{does, ended, then-call}
+use Rattle.rules.specs.Cycles.{done, _>>=_}
+use Rattle.rules.specs.Flags.{withI}
 use Rattle.rules.specs.Operations.{enter, down, withPc, withP, withS}
 use borrow.Author.Needs.{needs}
 use Rattle.stack.proofs.enter.Statement.{statement}

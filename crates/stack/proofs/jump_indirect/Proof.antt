@@ -1,7 +1,7 @@
 use Rattle.rules.specs.Cycles.{done}
 use Rattle.rules.specs.Operations.{withPc}
-use Rattle.bus.proofs.Laws.{does, ended, then-read, then-write, then-call, counted}
-use Rattle.rules.specs.Cycles.{execution, _>>=_}
+use Rattle.bus.proofs.Laws.{does, ended, then-call}
+use Rattle.rules.specs.Cycles.{_>>=_}
 use Rattle.rules.specs.Operations.{jumpIndirect}
 use borrow.Author.Needs.{needs}
 use Rattle.stack.proofs.jump_indirect.Statement.{statement}

@@ -1,7 +1,6 @@
-use Rattle.bus.proofs.Laws.{does, ended, then-read, then-write, then-call, then-do, counted, call-does, do-does, read-does}
-use Rattle.rules.specs.Cycles.{execution, done, _>>=_}
+use Rattle.bus.proofs.Laws.{does, ended, then-call}
+use Rattle.rules.specs.Cycles.{done, _>>=_}
 use Rattle.rules.specs.Basics.{sum8}
-use Rattle.rules.specs.Flags.{flagsOf, withI}
 use Rattle.rules.specs.Operations.{perform, pull, toA, withS}
 use Rattle.bus.specs.Goes.{moved}
 use Rattle.rules.specs.Record.{recordOf}

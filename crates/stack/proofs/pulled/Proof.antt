@@ -1,4 +1,4 @@
-use Rattle.bus.proofs.Laws.{does, ended, then-read, then-write, then-call, counted}
+use Rattle.bus.proofs.Laws.{then-read}
 use Rattle.rules.specs.Cycles.{execution, _>>=_}
 use borrow.Author.Needs.{needs}
 use Rattle.stack.proofs.pulled.Statement.{statement}

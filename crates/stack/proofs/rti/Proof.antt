@@ -1,9 +1,9 @@
 use Rattle.stack.specs.Words.{wordAt}
 use Rattle.rules.specs.Operations.{stack}
-use Rattle.bus.proofs.Laws.{does, ended, then-read, then-write, then-call, then-do, counted, call-does, do-does, read-does}
-use Rattle.rules.specs.Cycles.{execution, done, _>>=_}
+use Rattle.bus.proofs.Laws.{does, ended, then-call}
+use Rattle.rules.specs.Cycles.{done, _>>=_}
 use Rattle.rules.specs.Basics.{sum8}
-use Rattle.rules.specs.Flags.{flagsOf, withI}
+use Rattle.rules.specs.Flags.{flagsOf}
 use Rattle.rules.specs.Operations.{rti, withPc, withP, withS}
 use borrow.Author.Needs.{needs}
 use Rattle.stack.proofs.rti.Statement.{statement}

@@ -1,4 +1,3 @@
-use Rattle.rules.specs.Cycles.{_>>=_}
 use borrow.Author.Needs.{needs}
 use Rattle.stack.proofs.word_above.Statement.{statement}
 use Rattle.stack.proofs.word_above.Tie as tie

@@ -1,6 +1,5 @@
 use Rattle.rules.specs.Record.{recordOf}
 use native.Mathlib.Omega.{arith}
-use mathlib.Core.Path.{_≡_}
 use borrow.Author.Needs.{needs}
 use Rattle.state.proofs.pc_of.Statement.{statement}
 use Rattle.state.proofs.pc_of.Tie as tie

@@ -1,8 +1,3 @@
-use Rattle.rules.specs.Record.{recordOf}
-use mathlib.Core.Path.{ap}
-use mathlib.Core.List.{List}
-use Prim.Native.Nat.{ℕ}
-use lib.ListN.{set}
 use borrow.Author.Needs.{needs}
 use Rattle.state.proofs.to.Statement.{statement}
 use Rattle.state.proofs.to.Tie as tie

@@ -1,7 +1,6 @@
 use Rattle.bus.proofs.Laws.{reads, read-does}
 use Rattle.rules.specs.Cycles.{execution, _>>=_}
 use Rattle.rules.specs.Operations.{instruction}
-use mathlib.Core.Path.{_∙_}
 use borrow.Author.Needs.{needs}
 use Rattle.step.proofs.execute.Statement.{statement}
 use Rattle.step.proofs.execute.Tie as tie

@@ -1,5 +1,4 @@
 use native.Mathlib.Omega.{arith}
-use mathlib.Core.Path.{refl}
 use Rattle.step.proofs.Finish.{finishes}
 use Rattle.bus.specs.Goes.{moved}
 use borrow.Author.Needs.{needs}

@@ -2,7 +2,7 @@ use denote.Ref.{now}
 use Rattle.rules.specs.Step.{banksIn}
 use lib.ListN.{length, getD}
 use native.Mathlib.Omega.{arith}
-use borrow.Author.Tests.{ne-eqb, eq-eqb, lt-leb, le-leb}
+use borrow.Author.Tests.{ne-eqb, eq-eqb, lt-leb}
 use Rattle.rules.specs.Step.{step}
 use Rattle.step.proofs.Finish.{flipped, flopped, begins, banks-in, banks-out, all-passed}
 use mathlib.Core.Path.{sym, _∙_}

@@ -3,17 +3,15 @@ use Prim.Native.Nat.{ℕ, zero, suc, _+_, _-_, _*_, _/_, _%_, _≤_, _<_}
 use native.Mathlib.Omega.{arith}
 use native.Mathlib.Decide.{decLe}
 use mathlib.Core.Path.{_≡_, refl, sym, ap, _∙_}
-use mathlib.Core.Bool.{Bool, true, false, _||_}
+use mathlib.Core.Bool.{Bool, true, false}
 use mathlib.Core.List.{List}
-use borrow.Author.Tests.{ltb-true, eqb-true, eqb-false, eq-eqb, ne-eqb, lt-ltb, le-ltb, le-leb, lt-leb}
-use lib.Dec.{ltb, leb, eqb}
-use lib.Bits.{bitAnd, bitOr}
-use lib.ListN.{length, getD, set}
+use borrow.Author.Tests.{ltb-true, eqb-true, eqb-false, ne-eqb, lt-ltb, le-ltb, le-leb, lt-leb}
+use lib.Dec.{ltb, eqb}
 use Rattle.rules.specs.declared.Bus.{Bus}
 use Rattle.rules.specs.declared.State.{State}
 use Rattle.rules.specs.Basics.{if_then_else_, at}
 use Rattle.rules.specs.Cycles.{Bank}
-use Rattle.rules.specs.Bus.{is6508, is6509, World, world, images, Cell, first, second, byte, held, kept, isProtected, imageAt, cellOf, look, stored, selected, bytesOf}
+use Rattle.rules.specs.Bus.{is6509, World, world, images, Cell, first, second, byte, held, kept, isProtected, imageAt, cellOf, look, stored, bytesOf}
 use Rattle.rules.specs.Record.{recordOf}
 use Rattle.rules.proofs.Tests.{if-case}
 use lib.Seq.{sets}
