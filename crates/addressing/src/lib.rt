@@ -1,14 +1,14 @@
 // The accesses of each addressing mode, after the opcode and the operand were fetched. Each has its number in the step: a read's fifth argument.
 
-use bus::Wiring;
 use rules::Mode;
+use wiring::Wiring;
 ghost use Prim.Native.Nat.{_+_, _*_, _≤_, _<_};
 ghost use mathlib.Core.Path.{_≡_};
 ghost use lib.ListN.{length};
 ghost use Rattle.rules.specs.declared.State.{State};
 ghost use Rattle.rules.specs.Cycles.{Bank, execution};
 ghost use Rattle.rules.specs.Addressing.{oldPage, pointer, zeroIndexed, indexedPointer, loadIndexed, indexed, load, place};
-ghost use Rattle.bus.specs.Wiring.{Stands, Ready};
+ghost use Rattle.wiring.specs.Wiring.{Stands, Ready};
 ghost use Rattle.bus.specs.Goes.{Goes};
 ghost use Rattle.addressing.specs.Start.{fetchedOf, madeBy};
 
@@ -32,7 +32,7 @@ pub struct Spot {
 fn old_page(a: u16, i: u8) -> u16
     ensures { λ r. ⌜ r ≡ oldPage a i ⌝ }
 {
-    arithmetic::join(
+    bytes::join(
         std::num::wrapping_add_u8((a % 256) as u8, i),
         (a / 256) as u8,
     )
@@ -46,7 +46,7 @@ fn pointer(state: &[u8], w: Wiring, image: &[u8], list: &mut [u8], k: usize, z: 
     let next = std::num::wrapping_add_u8(z, 1) as u16;
     let low = bus::read(state, w, image, list, k, z as u16);
     let high = bus::read(state, w, image, list, k + 1, next);
-    arithmetic::join(low, high)
+    bytes::join(low, high)
 }
 
 // "read the unindexed zero-page address"
@@ -149,7 +149,7 @@ pub fn load(m: Mode, state: &[u8], w: Wiring, image: &[u8], list: &mut [u8]) -> 
         }
         Mode::IndirectBankY(z) => {
             let a = pointer(state, w, image, list, 2, z);
-            let there = bus::indirect(state, w);
+            let there = wiring::indirect(state, w);
             load_indexed(state, there, image, list, 4, a, state[Y])
         }
     }
@@ -202,7 +202,7 @@ pub fn place(m: Mode, state: &[u8], w: Wiring, image: &[u8], list: &mut [u8]) ->
         }
         Mode::IndirectBankY(z) => {
             let a = pointer(state, w, image, list, 2, z);
-            let there = bus::indirect(state, w);
+            let there = wiring::indirect(state, w);
             Spot {
                 address: indexed(state, there, image, list, 4, a, state[Y]),
                 count: 5,

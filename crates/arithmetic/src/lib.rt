@@ -1,70 +1,11 @@
-// What is computed of bytes and flags: P, the sums and differences in binary and in decimal, compares, BIT, shifts and steps by one.
+// What is computed of bytes and flags: the sums and differences in binary and in decimal, compares, BIT, shifts and steps by one.
 
 ghost use Prim.Native.Nat.{_+_, _-_, _≤_, _<_};
 ghost use mathlib.Core.Path.{_≡_};
-ghost use Rattle.rules.specs.Basics.{bit, bitOf, address};
-ghost use Rattle.rules.specs.Flags.{flagsOf, byteOf, nz, withC};
 ghost use Rattle.rules.specs.Arithmetic.{signed, leaves, binaryAdc, high, lowSum, highSum, decimalAdc, adc, lowDifference, highDifference, sbc, compare, bitTest, shifted, stepped, changed};
 use rules::Changing;
 use rules::Flags;
 use rules::Result;
-
-// The bit of p that has this weight.
-fn has(p: u8, weight: u8) -> bool
-    requires { ⌜ 1 ≤ weight ⌝ }
-    ensures { λ r. ⌜ r ≡ bitOf weight p ⌝ }
-{
-    p / weight % 2 == 1
-}
-
-// A byte's flags; its bits 4 and 5 stand for none.
-pub fn flags_of(p: u8) -> Flags
-    ensures { λ r. ⌜ r ≡ flagsOf p ⌝ }
-{
-    Flags {
-        n: has(p, 128),
-        v: has(p, 64),
-        d: has(p, 8),
-        i: has(p, 4),
-        z: has(p, 2),
-        c: has(p, 1),
-    }
-}
-
-// A flag as a number, to be added.
-fn bit(b: bool) -> u8
-    ensures { λ r. ⌜ (r ≡ bit b) × (r ≤ 1) ⌝ }
-{
-    if b { 1 } else { 0 }
-}
-
-// "P is N V 1 0 D I Z C from bit 7 down."
-pub fn byte_of(f: Flags) -> u8
-    ensures { λ r. ⌜ r ≡ byteOf f ⌝ }
-{
-    bit(f.n) * 128 + bit(f.v) * 64 + 32 + bit(f.d) * 8 + bit(f.i) * 4 + bit(f.z) * 2 + bit(f.c)
-}
-
-// N and Z of a byte, and C.
-fn nzc(v: u8, c: bool, f: Flags) -> Flags
-    ensures { λ r. ⌜ r ≡ withC c (nz v f) ⌝ }
-{
-    Flags {
-        n: 128 <= v,
-        v: f.v,
-        d: f.d,
-        i: f.i,
-        z: v == 0,
-        c: c,
-    }
-}
-
-// "loads, pulls of A, transfers except TXS, logic and steps by one set N, Z"
-pub fn nz(v: u8, f: Flags) -> Flags
-    ensures { λ r. ⌜ r ≡ nz v f ⌝ }
-{
-    nzc(v, f.c, f)
-}
 
 // A byte read as signed, plus 128: never below zero.
 fn signed(b: u8) -> u16
@@ -92,7 +33,7 @@ fn overflows(a: u8, m: u8, l: u16) -> bool
 fn binary(a: u8, m: u8, f: Flags) -> Result
     ensures { λ r. ⌜ r ≡ binaryAdc a m f ⌝ }
 {
-    let c = bit(f.c) as u16;
+    let c = bytes::bit(f.c) as u16;
     let t = a as u16 + m as u16 + c;
     let value = (t % 256) as u8;
     Result {
@@ -136,7 +77,7 @@ fn high_sum(t: u16) -> u16
 fn decimal(a: u8, m: u8, f: Flags) -> Result
     ensures { λ r. ⌜ r ≡ decimalAdc a m f ⌝ }
 {
-    let c = bit(f.c) as u16;
+    let c = bytes::bit(f.c) as u16;
     let l = low_sum(a, m, c);
     let high_a = high(a);
     let high_m = high(m);
@@ -200,7 +141,7 @@ pub fn sbc(a: u8, m: u8, f: Flags) -> Result
     if f.d {
         let flags = plain.flags;
         return Result {
-            value: difference(a, m, bit(f.c) as u16),
+            value: difference(a, m, bytes::bit(f.c) as u16),
             flags: flags,
         };
     }
@@ -211,7 +152,7 @@ pub fn sbc(a: u8, m: u8, f: Flags) -> Result
 pub fn compare(r: u8, m: u8, f: Flags) -> Flags
     ensures { λ result. ⌜ result ≡ compare r m f ⌝ }
 {
-    nzc(std::num::wrapping_sub_u8(r, m), m <= r, f)
+    bytes::nzc(std::num::wrapping_sub_u8(r, m), m <= r, f)
 }
 
 // "BIT takes N, V from memory, Z from the AND."
@@ -219,8 +160,8 @@ pub fn bit_test(a: u8, m: u8, f: Flags) -> Flags
     ensures { λ r. ⌜ r ≡ bitTest a m f ⌝ }
 {
     Flags {
-        n: has(m, 128),
-        v: has(m, 64),
+        n: bytes::has(m, 128),
+        v: bytes::has(m, 64),
         d: f.d,
         i: f.i,
         z: a & m == 0,
@@ -234,7 +175,7 @@ fn shifted(v: u8, out: bool, f: Flags) -> Result
 {
     Result {
         value: v,
-        flags: nzc(v, out, f),
+        flags: bytes::nzc(v, out, f),
     }
 }
 
@@ -244,7 +185,7 @@ fn stepped(v: u8, f: Flags) -> Result
 {
     Result {
         value: v,
-        flags: nz(v, f),
+        flags: bytes::nzc(v, f.c, f),
     }
 }
 
@@ -253,18 +194,11 @@ pub fn changed(o: Changing, v: u8, f: Flags) -> Result
     ensures { λ r. ⌜ r ≡ changed o v f ⌝ }
 {
     match o {
-        Changing::Asl => shifted(v % 128 * 2, has(v, 128), f),
-        Changing::Rol => shifted(v % 128 * 2 + bit(f.c), has(v, 128), f),
-        Changing::Lsr => shifted(v / 2, has(v, 1), f),
-        Changing::Ror => shifted(v / 2 + bit(f.c) * 128, has(v, 1), f),
+        Changing::Asl => shifted(v % 128 * 2, bytes::has(v, 128), f),
+        Changing::Rol => shifted(v % 128 * 2 + bytes::bit(f.c), bytes::has(v, 128), f),
+        Changing::Lsr => shifted(v / 2, bytes::has(v, 1), f),
+        Changing::Ror => shifted(v / 2 + bytes::bit(f.c) * 128, bytes::has(v, 1), f),
         Changing::Dec => stepped(std::num::wrapping_sub_u8(v, 1), f),
         Changing::Inc => stepped(std::num::wrapping_add_u8(v, 1), f),
     }
-}
-
-// An address of its low and its high byte.
-pub fn join(low: u8, high: u8) -> u16
-    ensures { λ r. ⌜ r ≡ address low high ⌝ }
-{
-    high as u16 * 256 + low as u16
 }

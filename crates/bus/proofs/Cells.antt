@@ -17,8 +17,9 @@ use Rattle.rules.proofs.Tests.{if-case}
 use lib.Seq.{sets}
 use Rattle.bus.specs.Goes.{moved, busAfter, Writes}
 use Rattle.bus.proofs.Laws.{writes}
-use Rattle.bus.specs.declared.Wiring.{Wiring}
-use Rattle.bus.specs.Wiring.{plainOf, bankOf, firstByteOf, baseOf, reached, lowHeld, registered, putAt, Wired, Stands, Part, the6502, the6508, the6509}
+use Rattle.wiring.specs.declared.Wiring.{Wiring}
+use Rattle.wiring.specs.Wiring.{plainOf, baseOf, Wired, Stands, Part, the6502, the6508, the6509}
+use Rattle.bus.specs.Cells.{reached, lowHeld, registered, putAt}
 
 two : (p : ℕ) → 2 ≤ p → (eqb p 0 ≡ false) × (eqb p 1 ≡ false) × (ltb p 2 ≡ false)
 two p l = (ne-eqb p 0 (λ e. absurd (omega arith)), ne-eqb p 1 (λ e. absurd (omega arith)), le-ltb p 2 l)
@@ -140,11 +141,3 @@ write-byte {i = i} p v k h q e d = wrote p v k _ h (store-byte i p v (h .wired) 
 
 pub plain-above : {κ : Bank} {w : Wiring} {s : State} {r : List ℕ} {p : ℕ} → Stands κ s r w → w .plain ≤ p → p < 2 → w .plain ≡ 0
 plain-above h l q = h .wired .plain ∙ below (h .wired .sound .part) (rw (h .wired .plain) at l) q
-
--- the bank that a register selects begins where the register says
-pub base-is : (part x n : ℕ) → firstByteOf part x n ≡ (if is6509 part then bankOf part x % n * 65536 else 0)
-base-is part x n = go (is6509 part)
-  where
-    go : (b : Bool) → (if b then x % n * 65536 else 0) ≡ (if b then (if b then x else 0) % n * 65536 else 0)
-    go true = refl
-    go false = refl

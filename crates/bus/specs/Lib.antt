@@ -1,2 +1,2 @@
-pub mod Wiring
+pub mod Cells
 pub mod Goes

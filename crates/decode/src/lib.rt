@@ -538,9 +538,9 @@ fn mode(n: u8, low: u8, high: u8) -> Mode
         1 => Mode::Zero(low),
         2 => Mode::ZeroX(low),
         3 => Mode::ZeroY(low),
-        4 => Mode::Absolute(arithmetic::join(low, high)),
-        5 => Mode::AbsoluteX(arithmetic::join(low, high)),
-        6 => Mode::AbsoluteY(arithmetic::join(low, high)),
+        4 => Mode::Absolute(bytes::join(low, high)),
+        5 => Mode::AbsoluteX(bytes::join(low, high)),
+        6 => Mode::AbsoluteY(bytes::join(low, high)),
         7 => Mode::IndirectX(low),
         8 => Mode::IndirectY(low),
         _ => Mode::IndirectBankY(low),
@@ -551,8 +551,8 @@ fn single(n: u8, low: u8, high: u8) -> Instruction
     ensures { λ r. ⌜ r ≡ singleOf n low high ⌝ }
 {
     match n {
-        0 => Instruction::Jump(arithmetic::join(low, high)),
-        1 => Instruction::JumpIndirect(arithmetic::join(low, high)),
+        0 => Instruction::Jump(bytes::join(low, high)),
+        1 => Instruction::JumpIndirect(bytes::join(low, high)),
         2 => Instruction::Jsr(low),
         3 => Instruction::Rts,
         4 => Instruction::Rti,

@@ -1,16 +1,13 @@
 // What instructions make of the registers, without an access.
 
-use rules::Changing;
-use rules::Condition;
 use rules::Flags;
 use rules::Internal;
 use rules::Reading;
 ghost use Prim.Native.Nat.{_+_, _%_};
 ghost use mathlib.Core.Path.{_≡_};
 ghost use lib.ListN.{length};
-ghost use Rattle.rules.specs.Flags.{withV, withD, withI, withC};
-ghost use Rattle.rules.specs.Arithmetic.{changed};
-ghost use Rattle.rules.specs.Operations.{withResult, used, inside, taken};
+ghost use Rattle.rules.specs.Flags.{withV, withD, withC};
+ghost use Rattle.rules.specs.Operations.{used, inside};
 ghost use Rattle.state.specs.Makes.{Makes};
 
 const A: usize = 1;
@@ -44,16 +41,6 @@ pub fn used(o: Reading, v: u8, state: &mut [u8])
         Reading::Cpy => state::set_flags(state, arithmetic::compare(y, v, f)),
         Reading::Bit => state::set_flags(state, arithmetic::bit_test(a, v, f)),
     }
-}
-
-// ASL, ROL, LSR, ROR of A.
-pub fn accumulated(o: Changing, state: &mut [u8])
-    requires { ⌜ length (now state) ≡ 16 ⌝ }
-    ensures { λ r. ⌜ Makes (λ c. withResult (changed o (c .a) (c .p)) c) (now (state .entry)) (now (state .exit)) ⌝ }
-{
-    let a = state[A];
-    let f = state::flags_of(state);
-    state::to_result(state, arithmetic::changed(o, a, f))
 }
 
 fn with_c(b: bool, f: Flags) -> Flags
@@ -95,19 +82,6 @@ fn with_d(b: bool, f: Flags) -> Flags
     }
 }
 
-pub fn with_i(b: bool, f: Flags) -> Flags
-    ensures { λ r. ⌜ r ≡ withI b f ⌝ }
-{
-    Flags {
-        n: f.n,
-        v: f.v,
-        d: f.d,
-        i: b,
-        z: f.z,
-        c: f.c,
-    }
-}
-
 fn next(v: u8) -> u8
     ensures { λ r. ⌜ r ≡ (v + 1) % 256 ⌝ }
 {
@@ -133,7 +107,7 @@ pub fn inside(o: Internal, state: &mut [u8])
     match o {
         Internal::Clc => state::set_flags(state, with_c(false, f)),
         Internal::Sec => state::set_flags(state, with_c(true, f)),
-        Internal::Sei => state::set_flags(state, with_i(true, f)),
+        Internal::Sei => state::set_flags(state, bytes::with_i(true, f)),
         Internal::Clv => state::set_flags(state, with_v(false, f)),
         Internal::Cld => state::set_flags(state, with_d(false, f)),
         Internal::Sed => state::set_flags(state, with_d(true, f)),
@@ -147,21 +121,5 @@ pub fn inside(o: Internal, state: &mut [u8])
         Internal::Dex => state::to(state, X, previous(x)),
         Internal::Dey => state::to(state, Y, previous(y)),
         Internal::Nop => {}
-    }
-}
-
-// When a branch is taken.
-pub fn taken(t: Condition, f: Flags) -> bool
-    ensures { λ r. ⌜ r ≡ taken t f ⌝ }
-{
-    match t {
-        Condition::Bpl => !f.n,
-        Condition::Bmi => f.n,
-        Condition::Bvc => !f.v,
-        Condition::Bvs => f.v,
-        Condition::Bcc => !f.c,
-        Condition::Bcs => f.c,
-        Condition::Bne => !f.z,
-        Condition::Beq => f.z,
     }
 }

@@ -12,8 +12,8 @@ use Rattle.rules.specs.Basics.{if_then_else_}
 use Rattle.rules.specs.Cycles.{execution, Cycles, done, read, Ran, run}
 use Rattle.rules.specs.Bus.{World, world, images, Cell, first, second, byte, cellOf, held, kept, look, stored, selected, narrow, withRegisters, isProtected}
 use Rattle.rules.specs.Record.{registerFits}
-use Rattle.bus.specs.declared.Wiring.{Wiring}
-use Rattle.bus.specs.Wiring.{Wired, Stands, Sound, Part, the6502, the6508, the6509}
+use Rattle.wiring.specs.declared.Wiring.{Wiring}
+use Rattle.wiring.specs.Wiring.{Wired, Stands, Sound, Part, the6502, the6508, the6509}
 use Rattle.bus.proofs.Laws.{counted}
 use Rattle.bus.specs.Goes.{Goes, Does, Writes, moved, busAfter}
 

@@ -1,27 +1,29 @@
 // One instruction, one line a bus cycle, in the order of time.
 
-use bus::Wiring;
 use rules::Changing;
 use rules::Condition;
+use rules::Flags;
 use rules::Instruction;
 use rules::Mode;
 use rules::Reading;
 use rules::Storing;
+use wiring::Wiring;
 ghost use Prim.Native.Nat.{_+_, _*_, _≤_, _<_};
 ghost use mathlib.Core.Path.{_≡_};
 ghost use lib.ListN.{length};
 ghost use Rattle.rules.specs.declared.State.{State};
-ghost use Rattle.rules.specs.declared.Instruction.the-variants.{Read, Store, Change, Branch, Php, Pha};
+ghost use Rattle.rules.specs.declared.Instruction.the-variants.{Read, Store, Change, Branch, Php, Plp, Pha, Pla};
 ghost use Rattle.rules.specs.Cycles.{execution, read, done};
 ghost use Rattle.rules.specs.Bus.{world, images, look};
 ghost use Rattle.rules.specs.Record.{recordOf};
 ghost use Rattle.rules.specs.Addressing.{bankOf};
-ghost use Rattle.rules.specs.Operations.{withP, withS, registerOf, target, perform, next, operate};
+ghost use Rattle.rules.specs.Arithmetic.{changed};
+ghost use Rattle.rules.specs.Operations.{withP, withS, withResult, registerOf, target, taken, push, perform, next, operate};
 ghost use Rattle.rules.specs.Opcodes.{decode, isDefined};
 ghost use Rattle.decode.specs.Numbers.{numberOf};
 ghost use Rattle.rules.specs.Flags.{withI};
 ghost use Rattle.state.specs.Makes.{Makes};
-ghost use Rattle.bus.specs.Wiring.{Stands, Ready};
+ghost use Rattle.wiring.specs.Wiring.{Stands, Ready};
 ghost use Rattle.bus.specs.Goes.{Goes, Does};
 ghost use Rattle.addressing.specs.Start.{fetchedOf, madeBy};
 ghost use Rattle.processor.specs.Rewritten.{rewritten};
@@ -54,7 +56,7 @@ fn wiring_of(m: Mode, state: &[u8], w: Wiring) -> Wiring
         Mode::AbsoluteY(_) => w,
         Mode::IndirectX(_) => w,
         Mode::IndirectY(_) => w,
-        Mode::IndirectBankY(_) => bus::indirect(state, w),
+        Mode::IndirectBankY(_) => wiring::indirect(state, w),
     }
 }
 
@@ -118,6 +120,22 @@ fn change(
     k + 3
 }
 
+// When a branch is taken.
+fn taken(t: Condition, f: Flags) -> bool
+    ensures { λ r. ⌜ r ≡ taken t f ⌝ }
+{
+    match t {
+        Condition::Bpl => !f.n,
+        Condition::Bmi => f.n,
+        Condition::Bvc => !f.v,
+        Condition::Bvs => f.v,
+        Condition::Bcc => !f.c,
+        Condition::Bcs => f.c,
+        Condition::Bne => !f.z,
+        Condition::Beq => f.z,
+    }
+}
+
 fn target(next: u16, o: u8) -> u16
     ensures { λ r. ⌜ r ≡ target next o ⌝ }
 {
@@ -130,7 +148,7 @@ fn branch(t: Condition, o: u8, state: &mut [u8], w: Wiring, image: &[u8], list: 
     requires { ⌜ Ready w (length (now state)) (length (now image)) (length (now list)) ⌝ }
     ensures { λ r. ⌜ (r ≤ 7) × ((s : State) → Stands execution s (now (state .entry)) w → Does (perform (Branch t o) (s .cpu)) 2 s (now (image .entry)) (now (list .entry)) r (now (state .exit)) (now (image .entry)) (now (list .exit))) ⌝ }
 {
-    if operations::taken(t, state::flags_of(state)) {
+    if taken(t, state::flags_of(state)) {
         let pc = state::pc_of(state);
         let to = target(pc, o);
         bus::read(state, w, image, list, 2, pc);
@@ -161,13 +179,23 @@ fn read_into(
     got.count
 }
 
+// "Push: PC+1, write at S."
+fn push(v: u8, state: &mut [u8], w: Wiring, image: &mut [u8], list: &mut [u8])
+    requires { ⌜ Ready w (length (now state)) (length (now image)) (length (now list)) ⌝ }
+    ensures { λ r. ⌜ ((s : State) → Stands execution s (now (state .entry)) w → Does (push v (s .cpu)) 2 s (now (image .entry)) (now (list .entry)) 3 (now (state .exit)) (now (image .exit)) (now (list .exit))) ⌝ }
+{
+    let s = state::s_of(state);
+    bus::push(w, image, list, 2, s, v);
+    state::set_s(state, bytes::down(1, s));
+}
+
 // PHP pushes "bits 4, 5 set".
 fn php(state: &mut [u8], w: Wiring, image: &mut [u8], list: &mut [u8])
     requires { ⌜ Ready w (length (now state)) (length (now image)) (length (now list)) ⌝ }
     ensures { λ r. ⌜ ((s : State) → Stands execution s (now (state .entry)) w → Does (perform Php (s .cpu)) 2 s (now (image .entry)) (now (list .entry)) 3 (now (state .exit)) (now (image .exit)) (now (list .exit))) ⌝ }
 {
-    let p = stack::with_bit_4(state::flags_of(state));
-    stack::push(p, state, w, image, list)
+    let p = bytes::with_bit_4(state::flags_of(state));
+    push(p, state, w, image, list)
 }
 
 fn pha(state: &mut [u8], w: Wiring, image: &mut [u8], list: &mut [u8])
@@ -175,7 +203,38 @@ fn pha(state: &mut [u8], w: Wiring, image: &mut [u8], list: &mut [u8])
     ensures { λ r. ⌜ ((s : State) → Stands execution s (now (state .entry)) w → Does (perform Pha (s .cpu)) 2 s (now (image .entry)) (now (list .entry)) 3 (now (state .exit)) (now (image .exit)) (now (list .exit))) ⌝ }
 {
     let a = register_of(Storing::Sta, state);
-    stack::push(a, state, w, image, list)
+    push(a, state, w, image, list)
+}
+
+// "PLP, RTI keep 5 set, 4 clear"
+fn plp(state: &mut [u8], w: Wiring, image: &[u8], list: &mut [u8])
+    requires { ⌜ Ready w (length (now state)) (length (now image)) (length (now list)) ⌝ }
+    ensures { λ r. ⌜ ((s : State) → Stands execution s (now (state .entry)) w → Does (perform Plp (s .cpu)) 2 s (now (image .entry)) (now (list .entry)) 4 (now (state .exit)) (now (image .entry)) (now (list .exit))) ⌝ }
+{
+    let s = state::s_of(state);
+    let p = stack::pulled(state, w, image, list, s);
+    state::set_s(state, bytes::up(1, s));
+    state::set_flags(state, bytes::flags_of(p));
+}
+
+fn pla(state: &mut [u8], w: Wiring, image: &[u8], list: &mut [u8])
+    requires { ⌜ Ready w (length (now state)) (length (now image)) (length (now list)) ⌝ }
+    ensures { λ r. ⌜ ((s : State) → Stands execution s (now (state .entry)) w → Does (perform Pla (s .cpu)) 2 s (now (image .entry)) (now (list .entry)) 4 (now (state .exit)) (now (image .entry)) (now (list .exit))) ⌝ }
+{
+    let s = state::s_of(state);
+    let v = stack::pulled(state, w, image, list, s);
+    state::set_s(state, bytes::up(1, s));
+    state::to(state, 1, v);
+}
+
+// ASL, ROL, LSR, ROR of A.
+fn accumulated(o: Changing, state: &mut [u8])
+    requires { ⌜ length (now state) ≡ 16 ⌝ }
+    ensures { λ r. ⌜ Makes (λ c. withResult (changed o (c .a) (c .p)) c) (now (state .entry)) (now (state .exit)) ⌝ }
+{
+    let a = state[1];
+    let f = state::flags_of(state);
+    state::to_result(state, arithmetic::changed(o, a, f))
 }
 
 fn txs(state: &mut [u8])
@@ -191,7 +250,7 @@ fn cli(state: &mut [u8])
     ensures { λ r. ⌜ Makes (λ c. withP (withI false (c .p)) c) (now (state .entry)) (now (state .exit)) ⌝ }
 {
     let f = state::flags_of(state);
-    state::set_flags(state, operations::with_i(false, f))
+    state::set_flags(state, bytes::with_i(false, f))
 }
 
 // An instruction's own accesses, and what it leaves. Answers the accesses made so far.
@@ -204,7 +263,7 @@ fn perform(i: Instruction, state: &mut [u8], w: Wiring, image: &mut [u8], list: 
         Instruction::Store(o, m) => store(o, m, state, w, image, list),
         Instruction::Change(o, m) => change(o, m, state, w, image, list),
         Instruction::Accumulator(o) => {
-            operations::accumulated(o, state);
+            accumulated(o, state);
             2
         }
         Instruction::Implied(o) => {
@@ -217,23 +276,23 @@ fn perform(i: Instruction, state: &mut [u8], w: Wiring, image: &mut [u8], list: 
             3
         }
         Instruction::JumpIndirect(a) => {
-            stack::jump_indirect(a, state, w, image, list);
+            jumps::jump_indirect(a, state, w, image, list);
             5
         }
         Instruction::Jsr(low) => {
-            stack::jsr(low, state, w, image, list);
+            jumps::jsr(low, state, w, image, list);
             6
         }
         Instruction::Rts => {
-            stack::rts(state, w, image, list);
+            jumps::rts(state, w, image, list);
             6
         }
         Instruction::Rti => {
-            stack::rti(state, w, image, list);
+            jumps::rti(state, w, image, list);
             6
         }
         Instruction::Brk => {
-            stack::brk(state, w, image, list);
+            interrupts::brk(state, w, image, list);
             7
         }
         Instruction::Php => {
@@ -241,7 +300,7 @@ fn perform(i: Instruction, state: &mut [u8], w: Wiring, image: &mut [u8], list: 
             3
         }
         Instruction::Plp => {
-            stack::plp(state, w, image, list);
+            plp(state, w, image, list);
             4
         }
         Instruction::Pha => {
@@ -249,7 +308,7 @@ fn perform(i: Instruction, state: &mut [u8], w: Wiring, image: &mut [u8], list: 
             3
         }
         Instruction::Pla => {
-            stack::pla(state, w, image, list);
+            pla(state, w, image, list);
             4
         }
         Instruction::Txs => {
@@ -284,8 +343,8 @@ pub fn instruction(
     image: &mut [u8],
     list: &mut [u8],
 ) -> usize
-    requires { ⌜ (entry ≡ numberOf (decode opcode)) × Ready w (length (now state)) (length (now image)) (length (now list)) ⌝ }
-    ensures { λ r. ⌜ (r ≤ 7) × ((s : State) → Stands execution s (now (state .entry)) w → pc ≡ s .cpu .pc → isDefined (decode opcode) ≡ true → Does (operate (decode opcode) (next (s .cpu))) 1 s (now (image .entry)) (now (list .entry)) r (now (state .exit)) (now (image .exit)) (now (list .exit))) ⌝ }
+    requires { ⌜ ((entry ≡ numberOf (decode opcode)) × (isDefined (decode opcode) ≡ true)) × Ready w (length (now state)) (length (now image)) (length (now list)) ⌝ }
+    ensures { λ r. ⌜ (r ≤ 7) × ((s : State) → Stands execution s (now (state .entry)) w → pc ≡ s .cpu .pc → Does (operate (decode opcode) (next (s .cpu))) 1 s (now (image .entry)) (now (list .entry)) r (now (state .exit)) (now (image .exit)) (now (list .exit))) ⌝ }
 {
     let size = decode::fetched(entry);
     let one = std::num::wrapping_add_u16(pc, 1);

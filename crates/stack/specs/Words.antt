@@ -1,9 +1,9 @@
 -- What is read at the stack, and an address read from two places.
 use Prim.Native.Nat.{ℕ}
 use Rattle.rules.specs.Basics.{address, sum8}
-use Rattle.rules.specs.Operations.{stack, down, pushPc}
+use Rattle.rules.specs.Operations.{stack}
 use Rattle.rules.specs.Cycles.{Cycles, done, _>>=_, _>>_}
-use Rattle.rules.specs.Addressing.{get, put}
+use Rattle.rules.specs.Addressing.{get}
 
 abbrev pub wordAt : ℕ → ℕ → Cycles ℕ
 wordAt one two = do
@@ -14,22 +14,3 @@ wordAt one two = do
 -- "read at S, read at S+1"
 abbrev pub pulledAt : ℕ → Cycles ℕ
 pulledAt s = get (stack s) >> get (stack (sum8 s 1))
-
--- "push PC high, low, P"
-abbrev pub pushThree : ℕ → ℕ → ℕ → Cycles (Unit {0})
-pushThree pc s p = pushPc pc s >> put (stack (down 2 s)) p
-
--- "three stack reads in place of pushes"
-abbrev pub threeReads : ℕ → Cycles (Unit {0})
-threeReads s = do
-  get (stack s)
-  get (stack (down 1 s))
-  get (stack (down 2 s))
-  done tt
-
--- "read PC twice"
-abbrev pub twoReads : ℕ → Cycles (Unit {0})
-twoReads p = do
-  get p
-  get p
-  done tt

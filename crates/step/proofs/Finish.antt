@@ -23,7 +23,7 @@ use Rattle.rules.specs.Step.{busAt, front, ranOf, finished, canStep, imageFits,
 use Rattle.rules.specs.Basics.{if_then_else_, at}
 use Rattle.rules.proofs.Steps.{list-length}
 use Rattle.rules.proofs.Records.{formed, written-again}
-use Rattle.bus.specs.Wiring.{Part, the6502, the6508, the6509}
+use Rattle.wiring.specs.Wiring.{Part, the6502, the6508, the6509}
 use Rattle.bus.specs.Goes.{Does, moved}
 use Rattle.step.specs.Parts.{vectorOf, closed, left, advanced, Begins}
 use Rattle.checks.specs.Checks.{banksFor}

@@ -1,8 +1,8 @@
 // One step: what is refused, which event is taken, and what a step leaves.
 
-use bus::Wiring;
 use rules::Refusal;
 use rules::StepAnswer;
+use wiring::Wiring;
 ghost use Prim.Native.Nat.{_+_, _*_, _≤_, _<_, _/_, _%_};
 ghost use mathlib.Core.Path.{_≡_};
 ghost use mathlib.Core.Bool.{true, not, _&&_};
@@ -18,7 +18,7 @@ ghost use Rattle.rules.specs.Bus.{world, images, look, resetBus};
 ghost use Rattle.rules.specs.Record.{long, recordOf};
 ghost use Rattle.rules.specs.Step.{busAt, ranOf, finished, step};
 ghost use Rattle.decode.specs.Numbers.{numberOf};
-ghost use Rattle.bus.specs.Wiring.{Sound, Stands, Ready};
+ghost use Rattle.wiring.specs.Wiring.{Sound, Stands, Ready};
 ghost use Rattle.bus.specs.Goes.{moved, Does};
 ghost use Rattle.step.specs.Parts.{vectorOf, closed, resetOf, left, advanced, Begins};
 
@@ -110,8 +110,8 @@ fn reset(state: &mut [u8], image: &[u8], list: &mut [u8], pins: u8, banks: u8)
     ensures { λ r. ⌜ ((s : State) → now (state .entry) ≡ recordOf s → Sound (s .bus) → s .bus .pins ≡ pins → s .bus .banks ≡ banks → Does (reset (s .cpu)) 0 (moved (s .cpu) (resetBus (s .bus)) s) (now (image .entry)) (now (list .entry)) 7 (now (state .exit)) (now (image .entry)) (now (list .exit))) ⌝ }
 {
     reset_registers(state);
-    let w = bus::wire(state, pins, banks);
-    stack::reset(state, w, image, list);
+    let w = wiring::wire(state, pins, banks);
+    interrupts::reset(state, w, image, list);
 }
 
 // The instruction at PC, whose opcode was looked at.
@@ -124,8 +124,8 @@ fn execute(
     image: &mut [u8],
     list: &mut [u8],
 ) -> usize
-    requires { ⌜ (entry ≡ numberOf (decode opcode)) × Ready w (length (now state)) (length (now image)) (length (now list)) ⌝ }
-    ensures { λ r. ⌜ (r ≤ 7) × ((s : State) → Stands execution s (now (state .entry)) w → pc ≡ s .cpu .pc → opcode ≡ look images (world (s .bus) (now (image .entry))) execution (s .cpu .pc) → isDefined (decode opcode) ≡ true → Does (instruction (s .cpu)) 0 s (now (image .entry)) (now (list .entry)) r (now (state .exit)) (now (image .exit)) (now (list .exit))) ⌝ }
+    requires { ⌜ ((entry ≡ numberOf (decode opcode)) × (isDefined (decode opcode) ≡ true)) × Ready w (length (now state)) (length (now image)) (length (now list)) ⌝ }
+    ensures { λ r. ⌜ (r ≤ 7) × ((s : State) → Stands execution s (now (state .entry)) w → pc ≡ s .cpu .pc → opcode ≡ look images (world (s .bus) (now (image .entry))) execution (s .cpu .pc) → Does (instruction (s .cpu)) 0 s (now (image .entry)) (now (list .entry)) r (now (state .exit)) (now (image .exit)) (now (list .exit))) ⌝ }
 {
     bus::note(list, 0, pc, w.bank, opcode, 0);
     processor::instruction(opcode, entry, pc, state, w, image, list)
@@ -159,8 +159,8 @@ fn run_interrupt(
     requires { ⌜ (vector < 65535) × (((length (now state) ≡ 16) × (56 ≤ length (now list))) × ((1 ≤ banks) × (banks * 65536 ≤ length (now image)))) ⌝ }
     ensures { λ r. ⌜ ((u : State) (e : Event) → Begins u (now (state .entry)) pins banks → (cyclesOf e (u .cpu) ≡ interrupt vector (u .cpu)) × (busAt e (u .bus) ≡ u .bus) → left r (now (state .exit)) (now (image .exit)) (now (list .exit)) ≡ finished images lines u (ranOf images e u (now (image .entry))) (now (list .entry))) ⌝ }
 {
-    let w = bus::wire(state, pins, banks);
-    stack::interrupt(vector, state, w, image, list);
+    let w = wiring::wire(state, pins, banks);
+    interrupts::interrupt(vector, state, w, image, list);
     close(state, lines, 7);
     StepAnswer::Stepped(7)
 }
@@ -176,7 +176,7 @@ fn run_instruction(
     requires { ⌜ ((length (now state) ≡ 16) × (56 ≤ length (now list))) × ((1 ≤ banks) × (banks * 65536 ≤ length (now image))) ⌝ }
     ensures { λ r. ⌜ ((u : State) → Begins u (now (state .entry)) pins banks → left r (now (state .exit)) (now (image .exit)) (now (list .exit)) ≡ advanced execute lines u (now (state .entry)) (now (image .entry)) (now (list .entry))) ⌝ }
 {
-    let w = bus::wire(state, pins, banks);
+    let w = wiring::wire(state, pins, banks);
     let pc = state::pc_of(state);
     let opcode = bus::look(state, w, image, pc);
     let entry = decode::entry_of(opcode);

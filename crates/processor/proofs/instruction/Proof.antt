@@ -11,7 +11,7 @@ use Rattle.processor.proofs.instruction.Tie as tie
 perform-requires : tie.Need-perform-requires
 perform-requires c κs =
     let ready = c .before .before .before .before .before .before .before .before .before .before .before .before .before .before .before .before .before .before .before .before .before .before .before .before .before .before .before .pre .1 in (
-      rw (c .before .before .before .before .before .before .before .instruction-of .ensures, c .before .before .before .before .before .before .before .before .before .before .before .before .before .before .before .before .before .before .before .before .before .before .before .before .before .before .before .pre .0) (short-is (c .before .before .before .before .before .before .before .before .before .before .before .before .before .before .before .before .before .before .before .before .before .before .before .before .before .before .before .args .opcode) _ _ (c .before .before .before .before .before .before .before .before .before .before .before .before .before .before .before .before .before .before .before .before .before .before .before .before .before .before .before .fits .opcode .fits)),
+      rw (c .before .before .before .before .before .before .before .instruction-of .ensures, c .before .before .before .before .before .before .before .before .before .before .before .before .before .before .before .before .before .before .before .before .before .before .before .before .before .before .before .pre .0 .0) (short-is (c .before .before .before .before .before .before .before .before .before .before .before .before .before .before .before .before .before .before .before .before .before .before .before .before .before .before .before .args .opcode) _ _ (c .before .before .before .before .before .before .before .before .before .before .before .before .before .before .before .before .before .before .before .before .before .before .before .before .before .before .before .fits .opcode .fits)),
       record {
         whole = c .before .before .before .before .before .set-pc .kept .0 ∙ ready .whole;
         room = omega (arith, c .before .before .before .before .before .before .before .before .before .before .high-operand .kept .1 .1 .1 .1 .0, c .before .before .before .before .before .before .before .before .before .before .before .before .before .before .before .before .read .kept .1 .1 .1 .0, ready .room);
@@ -24,14 +24,14 @@ perform-requires c κs =
 returns : tie.Need-returns
 returns c = (
   c .before .before .before .before .before .before .perform .ensures .0,
-  λ s h e d.
+  λ s h e.
       let op = c .before .before .before .before .before .before .before .before .before .before .before .before .before .before .before .before .before .before .before .before .before .before .before .before .before .before .before .before .before .before .before .before .before .before .args .opcode in
       let fits = c .before .before .before .before .before .before .before .before .before .before .before .before .before .before .before .before .before .before .before .before .before .before .before .before .before .before .before .before .before .before .before .before .before .before .fits .opcode .fits in
-      let number = c .before .before .before .before .before .before .before .before .before .before .before .before .before .before .before .before .before .before .before .before .before .before .before .before .before .before .before .before .before .before .before .before .before .before .pre .0 in
+      let number = c .before .before .before .before .before .before .before .before .before .before .before .before .before .before .before .before .before .before .before .before .before .before .before .before .before .before .before .before .before .before .before .before .before .before .pre .0 .0 in
       let size = rw (number, fetched-is op fits) at (c .before .before .before .before .before .before .before .before .before .before .before .before .before .before .before .before .before .before .before .before .before .before .before .before .before .before .before .before .before .before .fetched .ensures) in
       let made = rw number at (c .before .before .before .before .before .before .before .before .before .before .before .before .before .before .instruction-of .ensures) in
       let done = c .before .before .before .before .before .before .perform .ensures .1 _ (record { bytes = c .before .before .before .before .before .before .before .before .before .before .before .before .set-pc .ensures s (h .bytes); wired = h .wired }) in
-      operated (decode op) d
+      operated (decode op) (c .before .before .before .before .before .before .before .before .before .before .before .before .before .before .before .before .before .before .before .before .before .before .before .before .before .before .before .before .before .before .before .before .before .before .pre .0 .1)
       (record {
         between = _;
         first = rw (c .before .before .before .before .before .before .before .before .before .before .before .before .before .before .before .before .before .before .before .before .before .before .before .before .before .before .before .before .before .wrapping-add-u16 .ensures, e) at (c .before .before .before .before .before .before .before .before .before .before .before .before .before .before .before .before .before .before .before .before .before .before .before .read .ensures s execution h);

@@ -9,9 +9,9 @@ returns : tie.Need-returns
 unfolding instruction _>>=_
 returns c = (
   c .before .before .before .before .before .before .instruction .ensures .0,
-  λ s h e o d.
+  λ s h e o.
       read-does _ (reads execution (s .cpu .pc) _ _ 0 (s .bus) _ _ _ o (h .wired .bank) (rw e at (c .before .before .before .before .before .before .before .before .before .before .before .before .note .ensures)))
-      (c .before .before .before .before .before .before .instruction .ensures .1 s h e d),
+      (c .before .before .before .before .before .before .instruction .ensures .1 s h e),
 )
 
 pub execute-spec : {M : Type 1} → statement M

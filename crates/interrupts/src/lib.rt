@@ -1,0 +1,91 @@
+// BRK, the interrupts and RES. Each access has its number in the step.
+
+use wiring::Wiring;
+ghost use Prim.Native.Nat.{_<_};
+ghost use lib.ListN.{length};
+ghost use Rattle.rules.specs.declared.Bus.{Bus};
+ghost use Rattle.rules.specs.declared.State.{State};
+ghost use Rattle.rules.specs.Cycles.{execution};
+ghost use Rattle.rules.specs.Operations.{enter, brk};
+ghost use Rattle.rules.specs.Interrupts.{interrupt, reset};
+ghost use Rattle.wiring.specs.Wiring.{Wired, Stands, Ready};
+ghost use Rattle.bus.specs.Goes.{Goes, Does};
+ghost use Rattle.interrupts.specs.Reads.{pushThree, twoReads, threeReads};
+
+// "push PC high, low, P"
+fn push_three(w: Wiring, image: &mut [u8], list: &mut [u8], pc: u16, s: u8, p: u8)
+    requires { ⌜ Ready w 16 (length (now image)) (length (now list)) ⌝ }
+    ensures { λ r. ⌜ ((u : Bus) → Wired execution w u → Goes (pushThree pc s p) 2 u (now (image .entry)) (now (list .entry)) tt 5 u (now (image .exit)) (now (list .exit))) ⌝ }
+{
+    stack::push_pc(w, image, list, 2, pc, s);
+    bus::push(w, image, list, 4, bytes::down(2, s), p);
+}
+
+// How BRK, an interrupt and a reset end: S is lower by 3, "read the vector", "set I".
+fn enter(vector: u16, state: &mut [u8], w: Wiring, image: &[u8], list: &mut [u8])
+    requires { ⌜ (vector < 65535) × Ready w (length (now state)) (length (now image)) (length (now list)) ⌝ }
+    ensures { λ r. ⌜ ((s : State) → Stands execution s (now (state .entry)) w → Does (enter vector (s .cpu)) 5 s (now (image .entry)) (now (list .entry)) 7 (now (state .exit)) (now (image .entry)) (now (list .exit))) ⌝ }
+{
+    let s = state::s_of(state);
+    let f = bytes::with_i(true, state::flags_of(state));
+    let to = stack::word_at(state, w, image, list, 5, vector, vector + 1);
+    state::set_p_s_pc(state, f, bytes::down(3, s), to);
+}
+
+// "BRK: PC+1, push PC+2 high, low, P with bit 4 set, FFFE, FFFF; I set." PC stands at PC+1.
+pub fn brk(state: &mut [u8], w: Wiring, image: &mut [u8], list: &mut [u8])
+    requires { ⌜ Ready w (length (now state)) (length (now image)) (length (now list)) ⌝ }
+    ensures { λ r. ⌜ ((s : State) → Stands execution s (now (state .entry)) w → Does (brk (s .cpu)) 2 s (now (image .entry)) (now (list .entry)) 7 (now (state .exit)) (now (image .exit)) (now (list .exit))) ⌝ }
+{
+    let back = std::num::wrapping_add_u16(state::pc_of(state), 1);
+    let s = state::s_of(state);
+    let p = bytes::with_bit_4(state::flags_of(state));
+    push_three(w, image, list, back, s, p);
+    enter(65534, state, w, image, list);
+}
+
+// "read PC twice"
+fn two_reads(state: &[u8], w: Wiring, image: &[u8], list: &mut [u8], pc: u16)
+    requires { ⌜ Ready w (length (now state)) (length (now image)) (length (now list)) ⌝ }
+    ensures { λ r. ⌜ ((t : State) → Stands execution t (now (state .entry)) w → Goes (twoReads pc) 0 (t .bus) (now (image .entry)) (now (list .entry)) tt 2 (t .bus) (now (image .entry)) (now (list .exit))) ⌝ }
+{
+    bus::read(state, w, image, list, 0, pc);
+    bus::read(state, w, image, list, 1, pc);
+}
+
+// "IRQ, NMI: read PC twice, push PC high, low, P (bit 4 clear), read the vector (FFFE, FFFA), set I."
+pub fn interrupt(vector: u16, state: &mut [u8], w: Wiring, image: &mut [u8], list: &mut [u8])
+    requires { ⌜ (vector < 65535) × Ready w (length (now state)) (length (now image)) (length (now list)) ⌝ }
+    ensures { λ r. ⌜ ((s : State) → Stands execution s (now (state .entry)) w → Does (interrupt vector (s .cpu)) 0 s (now (image .entry)) (now (list .entry)) 7 (now (state .exit)) (now (image .exit)) (now (list .exit))) ⌝ }
+{
+    let pc = state::pc_of(state);
+    let s = state::s_of(state);
+    let p = bytes::byte_of(state::flags_of(state));
+    two_reads(state, w, image, list, pc);
+    push_three(w, image, list, pc, s, p);
+    enter(vector, state, w, image, list);
+}
+
+// "three stack reads in place of pushes"
+fn three_reads(state: &[u8], w: Wiring, image: &[u8], list: &mut [u8], s: u8)
+    requires { ⌜ Ready w (length (now state)) (length (now image)) (length (now list)) ⌝ }
+    ensures { λ r. ⌜ ((t : State) → Stands execution t (now (state .entry)) w → Goes (threeReads s) 2 (t .bus) (now (image .entry)) (now (list .entry)) tt 5 (t .bus) (now (image .entry)) (now (list .exit))) ⌝ }
+{
+    let one = bytes::stack(bytes::down(1, s));
+    let two = bytes::stack(bytes::down(2, s));
+    bus::read(state, w, image, list, 2, bytes::stack(s));
+    bus::read(state, w, image, list, 3, one);
+    bus::read(state, w, image, list, 4, two);
+}
+
+// "RES: the same with three stack reads in place of pushes, S lowered by 3, vector FFFC, I set, D kept"
+pub fn reset(state: &mut [u8], w: Wiring, image: &[u8], list: &mut [u8])
+    requires { ⌜ Ready w (length (now state)) (length (now image)) (length (now list)) ⌝ }
+    ensures { λ r. ⌜ ((s : State) → Stands execution s (now (state .entry)) w → Does (reset (s .cpu)) 0 s (now (image .entry)) (now (list .entry)) 7 (now (state .exit)) (now (image .entry)) (now (list .exit))) ⌝ }
+{
+    let pc = state::pc_of(state);
+    let s = state::s_of(state);
+    two_reads(state, w, image, list, pc);
+    three_reads(state, w, image, list, s);
+    enter(65532, state, w, image, list);
+}

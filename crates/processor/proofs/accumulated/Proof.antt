@@ -1,0 +1,18 @@
+use Rattle.state.proofs.Registers.{a-of}
+use borrow.Author.Needs.{needs}
+use Rattle.processor.proofs.accumulated.Statement.{statement}
+use Rattle.processor.proofs.accumulated.Tie as tie
+
+returns : tie.Need-returns
+returns c = λ s e. rw (c .before .before .before .changed .ensures, c .before .before .before .before .before .flags-of .ensures s e, a-of s e) at (c .before .before .to-result .ensures s e)
+
+pub accumulated-spec : {M : Type 1} → statement M
+accumulated-spec =
+    tie.close
+    (tie.spec
+    (λ c. search needs)
+    (λ c κs. search needs)
+    (λ c κs. search needs)
+    (λ c κs. search needs)
+    (λ c. search needs)
+    returns)
