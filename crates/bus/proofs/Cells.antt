@@ -3,7 +3,7 @@ use Prim.Native.Nat.{ℕ, zero, suc, _+_, _-_, _*_, _/_, _%_, _≤_, _<_}
 use native.Mathlib.Omega.{arith}
 use native.Mathlib.Decide.{decLe}
 use mathlib.Core.Path.{_≡_, refl, sym, ap, _∙_}
-use mathlib.Core.Bool.{Bool, true, false}
+use mathlib.Core.Bool.{true, false}
 use mathlib.Core.List.{List}
 use borrow.Author.Tests.{ltb-true, eqb-true, eqb-false, ne-eqb, lt-ltb, le-ltb, le-leb, lt-leb}
 use lib.Dec.{ltb, eqb}
@@ -11,7 +11,7 @@ use Rattle.rules.specs.declared.Bus.{Bus}
 use Rattle.rules.specs.declared.State.{State}
 use Rattle.rules.specs.Basics.{if_then_else_, at}
 use Rattle.rules.specs.Cycles.{Bank}
-use Rattle.rules.specs.Bus.{is6509, World, world, images, Cell, first, second, byte, held, kept, isProtected, imageAt, cellOf, look, stored, bytesOf}
+use Rattle.rules.specs.Bus.{World, world, images, Cell, first, second, byte, held, kept, isProtected, imageAt, cellOf, look, stored, bytesOf}
 use Rattle.rules.specs.Record.{recordOf}
 use Rattle.rules.proofs.Tests.{if-case}
 use lib.Seq.{sets}

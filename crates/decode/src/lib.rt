@@ -11,7 +11,6 @@ use rules::Mode;
 use rules::Reading;
 use rules::Storing;
 ghost use mathlib.Core.Path.{_≡_};
-ghost use Rattle.rules.specs.Basics.{address};
 ghost use Rattle.rules.specs.Opcodes.{decode};
 ghost use Rattle.decode.specs.Numbers.{numberOf, readingOf, storingOf, changingOf, internalOf, conditionOf, modeOf, singleOf, made, isWord, fetched};
 

@@ -2,7 +2,7 @@
 
 use rules::Flags;
 use rules::Result;
-ghost use Prim.Native.Nat.{_+_, _*_, _<_};
+ghost use Prim.Native.Nat.{_<_};
 ghost use mathlib.Core.Path.{_≡_};
 ghost use lib.ListN.{length, set};
 ghost use Rattle.rules.specs.declared.State.{State};

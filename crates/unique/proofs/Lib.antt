@@ -1,0 +1,17 @@
+pub mod Addressing
+pub mod Arithmetic
+pub mod Board
+pub mod Bus
+pub mod Bytes
+pub mod Checks
+pub mod Decode
+pub mod General
+pub mod Interrupts
+pub mod Jumps
+pub mod Operations
+pub mod Processor
+pub mod Relations
+pub mod Stack
+pub mod State
+pub mod Step
+pub mod Wiring

@@ -1,0 +1,14 @@
+-- A step has one answer and leaves one record, one image and one list of accesses.
+use Prim.Native.Nat.{ℕ}
+use mathlib.Core.Path.{sym, ap, _∙_}
+use mathlib.Core.List.{List}
+use Rattle.rules.specs.Step.{Outcome}
+use Rattle.step.proofs as its
+use Rattle.unique.proofs.General.{Unique}
+
+-- the answer, the record, the image and the list, each in the place of its parameter
+abbrev pub placed : {A : Type 0} → Outcome A (List ℕ) → A × (List ℕ × (List ℕ × (Unit {0} × (Unit {0} × (List ℕ × Unit {0})))))
+placed o = (o .answer, (o .state, (o .image, (tt, (tt, (o .accesses, tt))))))
+
+pub step : Unique its.step.Kinds.ps its.step.Kinds.r its.step.Reads.Post
+step κs a x y p q = ap placed (p ∙ sym q)

@@ -1,0 +1,1 @@
+// Laws about the contracts of the other crates; no code.
