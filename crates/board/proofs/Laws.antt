@@ -1,5 +1,5 @@
 -- What follows of every word and every buffer that fit the contract of `wankitare_step`, which is taken as it stands in the crate and is no copy.
-use Prim.Native.Nat.{ℕ, _+_, _*_, _/_, _%_}
+use Prim.Native.Nat.{ℕ, _/_, _%_}
 use native.Mathlib.Omega.{arith}
 use mathlib.Core.Path.{_≡_, refl, sym, ap, subst, _∙_}
 use mathlib.Core.List.{List}

@@ -15,13 +15,6 @@ use Rattle.wiring.specs.declared.Wiring.{Wiring}
 abbrev pub plainOf : ℕ → ℕ
 plainOf part = if is6502 part then 0 else if is6508 part then 512 else 2
 
--- the bank that a register selects
-abbrev pub bankOf : ℕ → ℕ → ℕ
-bankOf part register = if is6509 part then register else 0
-
-abbrev pub firstByteOf : ℕ → ℕ → ℕ → ℕ
-firstByteOf part register banks = if is6509 part then register % banks * 65536 else 0
-
 -- "part (02, 08, 09)"
 pub data Part (n : ℕ) : Type 0 where
   the6502 : n ≡ 2 → Part n

@@ -5,8 +5,10 @@ ghost use mathlib.Core.Path.{_≡_};
 ghost use lib.ListN.{length};
 ghost use Rattle.rules.specs.declared.State.{State};
 ghost use Rattle.rules.specs.Cycles.{execution, indirect};
+ghost use Rattle.rules.specs.Basics.{if_then_else_};
+ghost use Rattle.rules.specs.Bus.{is6508};
 ghost use Rattle.rules.specs.Record.{recordOf};
-ghost use Rattle.wiring.specs.Wiring.{plainOf, bankOf, firstByteOf, Sound, Stands};
+ghost use Rattle.wiring.specs.Wiring.{Sound, Stands};
 
 // How a step's accesses reach the image. Addresses below `plain` have a rule of the part's own, those from `top` on are protected; `base` is
 // where the bank begins in the image.
@@ -19,23 +21,11 @@ pub struct Wiring {
     pub base: usize,
 }
 
+// The 6508's first two pages have a rule of their own, and no address of the 6502.
 fn plain_of(part: u8) -> u16
-    ensures { λ r. ⌜ r ≡ plainOf part ⌝ }
+    ensures { λ r. ⌜ r ≡ (if is6508 part then 512 else 0) ⌝ }
 {
-    if part == 2 {
-        return 0;
-    }
-    if part == 8 {
-        return 512;
-    }
-    2
-}
-
-// "selected bank before the modulo (0 unless 6509)"
-fn bank_of(part: u8, register: u8) -> u8
-    ensures { λ r. ⌜ r ≡ bankOf part register ⌝ }
-{
-    if part == 9 { register } else { 0 }
+    if part == 8 { 512 } else { 0 }
 }
 
 fn wrapped(bank: u8, banks: u8) -> u8
@@ -46,14 +36,11 @@ fn wrapped(bank: u8, banks: u8) -> u8
 }
 
 // "bank b is bank b modulo k of the image"
-fn base_of(part: u8, register: u8, banks: u8) -> usize
+fn base_of(bank: u8, banks: u8) -> usize
     requires { ⌜ 1 ≤ banks ⌝ }
-    ensures { λ r. ⌜ (r ≡ firstByteOf part register banks) × (r + 65536 ≤ banks * 65536) ⌝ }
+    ensures { λ r. ⌜ (r ≡ bank % banks * 65536) × (r + 65536 ≤ banks * 65536) ⌝ }
 {
-    if part == 9 {
-        return wrapped(register, banks) as usize * 65536;
-    }
-    0
+    wrapped(bank, banks) as usize * 65536
 }
 
 // "The top c pages are write-protected"
@@ -69,27 +56,43 @@ pub fn wire(state: &[u8], pins: u8, banks: u8) -> Wiring
     ensures { λ r. ⌜ ((r .base + 65536 ≤ banks * 65536) × (r .banks ≡ banks)) × ((s : State) → now (state .entry) ≡ recordOf s → Sound (s .bus) → s .bus .pins ≡ pins → s .bus .banks ≡ banks → Stands execution s (now (state .entry)) r) ⌝ }
 {
     let part = state[0];
+    let top = top_of(state[11]);
+    if part == 9 {
+        let bank = state[8];
+        return Wiring {
+            pins: pins,
+            banks: banks,
+            bank: bank,
+            plain: 2,
+            top: top,
+            base: base_of(bank, banks),
+        };
+    }
     Wiring {
         pins: pins,
         banks: banks,
-        bank: bank_of(part, state[8]),
+        bank: 0,
         plain: plain_of(part),
-        top: top_of(state[11]),
-        base: base_of(part, state[8], banks),
+        top: top,
+        base: 0,
     }
 }
 
-// The same in the indirect bank.
+// The same in the indirect bank, which is one of its own on the 6509 alone.
 pub fn indirect(state: &[u8], w: Wiring) -> Wiring
-    requires { ⌜ (length (now state) ≡ 16) × (1 ≤ w .banks) ⌝ }
+    requires { ⌜ (length (now state) ≡ 16) × (1 ≤ w .banks) × (w .base + 65536 ≤ w .banks * 65536) ⌝ }
     ensures { λ r. ⌜ ((r .base + 65536 ≤ w .banks * 65536) × (r .banks ≡ w .banks)) × ((s : State) → Stands execution s (now (state .entry)) w → Stands indirect s (now (state .entry)) r) ⌝ }
 {
-    Wiring {
-        pins: w.pins,
-        banks: w.banks,
-        bank: bank_of(state[0], state[9]),
-        plain: w.plain,
-        top: w.top,
-        base: base_of(state[0], state[9], w.banks),
+    if state[0] == 9 {
+        let bank = state[9];
+        return Wiring {
+            pins: w.pins,
+            banks: w.banks,
+            bank: bank,
+            plain: w.plain,
+            top: w.top,
+            base: base_of(bank, w.banks),
+        };
     }
+    w
 }

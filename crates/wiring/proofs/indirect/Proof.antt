@@ -1,5 +1,5 @@
-use mathlib.Core.Path.{refl, _∙_}
-use Rattle.wiring.proofs.Banks.{base-is}
+use mathlib.Core.Path.{_≡_, refl}
+use borrow.Author.Tests.{ne-eqb}
 use Rattle.rules.specs.Bus.{selected}
 use Rattle.rules.specs.Record.{recordOf}
 use borrow.Author.Needs.{needs}
@@ -11,6 +11,7 @@ unfolding selected recordOf
 returns c = (
   (c .base-of .ensures .1, refl),
   λ s h.
+      let nine : s .bus .part ≡ 9 = rw (h .bytes) at (c .before .before .if1 .taken) in
       record {
         bytes = h .bytes;
         wired =
@@ -18,10 +19,31 @@ returns c = (
               sound = h .wired .sound;
               pins = h .wired .pins;
               banks = h .wired .banks;
-              bank = rw (h .bytes) at (c .before .before .before .bank-of .ensures);
+              bank = rw (h .bytes, nine);
               plain = h .wired .plain;
               top = h .wired .top;
-              base = rw (h .bytes, h .wired .banks) at (c .base-of .ensures .0) ∙ base-is (s .bus .part) (s .bus .second) (s .bus .banks);
+              base = rw nine (rw (h .bytes, h .wired .banks) at (c .base-of .ensures .0));
+            };
+      },
+)
+
+returns-2 : tie.Need-returns-2
+unfolding selected recordOf
+returns-2 c = (
+  (c .before .before .before .pre .2, refl),
+  λ s h.
+      let other : s .bus .part ≡ 9 → ⊥ = rw (h .bytes) at (c .if1 .left) in
+      record {
+        bytes = h .bytes;
+        wired =
+            record {
+              sound = h .wired .sound;
+              pins = h .wired .pins;
+              banks = h .wired .banks;
+              bank = rw (ne-eqb _ 9 other) (rw (ne-eqb _ 9 other) at (h .wired .bank));
+              plain = h .wired .plain;
+              top = h .wired .top;
+              base = rw (ne-eqb _ 9 other) (rw (ne-eqb _ 9 other) at (h .wired .base));
             };
       },
 )
@@ -33,7 +55,5 @@ indirect-spec =
     (λ c. search needs)
     (λ c. search needs)
     (λ c κs. search needs)
-    (λ c. search needs)
-    (λ c. search needs)
-    (λ c κs. search needs)
-    returns)
+    returns
+    returns-2)

@@ -1,7 +1,9 @@
-use mathlib.Core.Path.{sym, refl, _∙_}
-use Rattle.wiring.proofs.Banks.{base-is}
+use native.Mathlib.Omega.{arith}
+use mathlib.Core.Path.{_≡_, sym, refl, _∙_}
+use borrow.Author.Tests.{ne-eqb}
 use Rattle.rules.specs.Bus.{selected}
 use Rattle.rules.specs.Record.{recordOf}
+use Rattle.wiring.proofs.Banks.{plain-is}
 use borrow.Author.Needs.{needs}
 use Rattle.wiring.proofs.wire.Statement.{statement}
 use Rattle.wiring.proofs.wire.Tie as tie
@@ -11,6 +13,7 @@ unfolding selected recordOf
 returns c = (
   (c .base-of .ensures .1, refl),
   λ s e q p b.
+      let nine : s .bus .part ≡ 9 = rw e at (c .before .before .if1 .taken) in
       record {
         bytes = e;
         wired =
@@ -18,10 +21,31 @@ returns c = (
               sound = q;
               pins = sym p;
               banks = sym b;
-              bank = rw e at (c .before .before .before .before .before .bank-of .ensures);
-              plain = rw e at (c .before .before .before .before .plain-of .ensures);
+              bank = rw (e, nine);
+              plain = rw nine;
+              top = rw e at (c .before .before .before .top-of .ensures);
+              base = rw nine (rw (e, ← b) at (c .base-of .ensures .0));
+            };
+      },
+)
+
+returns-2 : tie.Need-returns-2
+unfolding selected recordOf
+returns-2 c = (
+  (omega (arith, c .before .before .before .before .before .before .pre .1), refl),
+  λ s e q p b.
+      let other : s .bus .part ≡ 9 → ⊥ = rw e at (c .before .if1 .left) in
+      record {
+        bytes = e;
+        wired =
+            record {
+              sound = q;
+              pins = sym p;
+              banks = sym b;
+              bank = rw (ne-eqb _ 9 other);
+              plain = rw e at (c .plain-of .ensures) ∙ plain-is (s .bus .part) (q .part) other;
               top = rw e at (c .before .before .top-of .ensures);
-              base = rw (← b, e) at (c .base-of .ensures .0) ∙ base-is (s .bus .part) (s .bus .first) (s .bus .banks);
+              base = rw (ne-eqb _ 9 other);
             };
       },
 )
@@ -33,9 +57,8 @@ wire-spec =
     (λ c. search needs)
     (λ c. search needs)
     (λ c κs. search needs)
-    (λ c κs. search needs)
     (λ c. search needs)
     (λ c κs. search needs)
-    (λ c. search needs)
+    returns
     (λ c κs. search needs)
-    returns)
+    returns-2)
