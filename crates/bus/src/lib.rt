@@ -1,35 +1,18 @@
 // The bus of the three parts: one access at a time, each listed at its cycle's place. The state is the record's sixteen bytes.
 
 use wiring::Wiring;
-ghost use Prim.Native.Nat.{_+_, _-_, _*_, _%_, _≤_, _<_};
+ghost use Prim.Native.Nat.{_+_, _-_, _%_, _≤_, _<_};
 ghost use mathlib.Core.Path.{_≡_};
 ghost use lib.ListN.{length};
 ghost use lib.Bits.{bitAnd, bitOr};
-ghost use lib.Seq.{sets};
 ghost use Rattle.rules.specs.declared.State.{State};
 ghost use Rattle.rules.specs.declared.Bus.{Bus};
 ghost use Rattle.rules.specs.Cycles.{Bank, done, read, write};
-ghost use Rattle.rules.specs.Bus.{world, images, look, bytesOf, narrow};
+ghost use Rattle.rules.specs.Bus.{world, images, look, narrow};
 ghost use Rattle.rules.specs.Record.{recordOf};
 ghost use Rattle.wiring.specs.Wiring.{Wired, Stands, Ready};
 ghost use Rattle.bus.specs.Cells.{lowHeld, registered, putAt};
 ghost use Rattle.bus.specs.Goes.{Goes, moved, Writes};
-
-// Lists one access, "8 bytes: address low, high, selected bank before the modulo, value, 0 read or 1 write, three zeros".
-pub fn note(list: &mut [u8], k: usize, a: u16, bank: u8, v: u8, kind: u8)
-    requires { ⌜ (k < 7) × (56 ≤ length (now list)) ⌝ }
-    ensures { λ r. ⌜ now (list .exit) ≡ sets (now (list .entry)) (8 * k) (bytesOf (record { address = a; bank = bank; value = v; kind = kind })) ⌝ }
-{
-    let at = 8 * k;
-    list[at] = (a % 256) as u8;
-    list[at + 1] = (a / 256) as u8;
-    list[at + 2] = bank;
-    list[at + 3] = v;
-    list[at + 4] = kind;
-    list[at + 5] = 0;
-    list[at + 6] = 0;
-    list[at + 7] = 0;
-}
 
 // The 6508's port: "the output bit where direction is 1, the pin where it is 0".
 fn port(direction: u8, output: u8, pins: u8) -> u8
@@ -72,7 +55,7 @@ pub fn read(state: &[u8], w: Wiring, image: &[u8], list: &mut [u8], k: usize, a:
     ensures { λ r. ⌜ ((s : State) (κ : Bank) → Stands κ s (now (state .entry)) w → Goes (read κ a done) k (s .bus) (now (image .entry)) (now (list .entry)) r (k + 1) (s .bus) (now (image .entry)) (now (list .exit))) ⌝ }
 {
     let v = look(state, w, image, a);
-    note(list, k, a, w.bank, v, 0);
+    listing::note(list, k, a, w.bank, v, 0);
     v
 }
 
@@ -122,7 +105,7 @@ pub fn write(
     requires { ⌜ (k < 7) × Ready w (length (now state)) (length (now image)) (length (now list)) ⌝ }
     ensures { λ r. ⌜ ((s : State) (κ : Bank) → Stands κ s (now (state .entry)) w → Writes κ a v k s (now (image .entry)) (now (list .entry)) (now (state .exit)) (now (image .exit)) (now (list .exit))) ⌝ }
 {
-    note(list, k, a, w.bank, v, 1);
+    listing::note(list, k, a, w.bank, v, 1);
     if w.plain <= a {
         put(w, image, a, v);
         return;
@@ -140,6 +123,6 @@ pub fn push(w: Wiring, image: &mut [u8], list: &mut [u8], k: usize, s: u8, v: u8
     ensures { λ r. ⌜ ((u : Bus) (κ : Bank) → Wired κ w u → Goes {A = Unit {0}} (write κ (256 + s) v (done tt)) k u (now (image .entry)) (now (list .entry)) tt (k + 1) u (now (image .exit)) (now (list .exit))) ⌝ }
 {
     let a = 256 + s as u16;
-    note(list, k, a, w.bank, v, 1);
+    listing::note(list, k, a, w.bank, v, 1);
     put(w, image, a, v);
 }

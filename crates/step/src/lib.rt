@@ -127,7 +127,7 @@ fn execute(
     requires { ⌜ ((entry ≡ numberOf (decode opcode)) × (isDefined (decode opcode) ≡ true)) × Ready w (length (now state)) (length (now image)) (length (now list)) ⌝ }
     ensures { λ r. ⌜ (r ≤ 7) × ((s : State) → Stands execution s (now (state .entry)) w → pc ≡ s .cpu .pc → opcode ≡ look images (world (s .bus) (now (image .entry))) execution (s .cpu .pc) → Does (instruction (s .cpu)) 0 s (now (image .entry)) (now (list .entry)) r (now (state .exit)) (now (image .exit)) (now (list .exit))) ⌝ }
 {
-    bus::note(list, 0, pc, w.bank, opcode, 0);
+    listing::note(list, 0, pc, w.bank, opcode, 0);
     processor::instruction(opcode, entry, pc, state, w, image, list)
 }
 

@@ -6,11 +6,8 @@ use Rattle.rules.specs.declared.State.{State}
 use Rattle.rules.specs.Cycles.{Bank}
 use Rattle.wiring.specs.Wiring.{Wired, Stands}
 use Rattle.bus.proofs as its
-use Rattle.unique.proofs.General.{Unique, UniqueWhere, answer, lent}
+use Rattle.unique.proofs.General.{UniqueWhere, answer}
 use Rattle.unique.proofs.Relations.{goes, writes}
-
-pub note : Unique its.note.Kinds.ps its.note.Kinds.r its.note.Reads.Post
-note κs a x y = lent refl
 
 pub look : (s : State) (κ : Bank) → UniqueWhere its.look.Kinds.ps its.look.Kinds.r (λ κs a. Stands κ s (now (a .0)) (a .1 .0)) its.look.Reads.Post
 look s κ κs a h x y p q = answer refl (p s κ h) (q s κ h)

@@ -6,12 +6,14 @@ pub mod Bytes
 pub mod Checks
 pub mod Decode
 pub mod General
+pub mod Internal
 pub mod Interrupts
-pub mod Jumps
+pub mod Listing
 pub mod Operations
 pub mod Processor
 pub mod Relations
 pub mod Stack
 pub mod State
 pub mod Step
+pub mod Sums
 pub mod Wiring

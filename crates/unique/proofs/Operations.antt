@@ -1,4 +1,4 @@
--- Each function of operations has one answer, or leaves one record where the sixteen bytes stand for a state.
+-- Each function of operations leaves one record where the sixteen bytes stand for a state.
 use mathlib.Core.Path.{_≡_, sym, _∙_}
 use denote.Ref.{now}
 use Rattle.rules.specs.declared.State.{State}
@@ -8,6 +8,3 @@ use Rattle.unique.proofs.General.{UniqueWhere}
 
 pub used : (s : State) → UniqueWhere its.used.Kinds.ps its.used.Kinds.r (λ κs a. now (a .1 .1 .0) ≡ recordOf s) its.used.Reads.Post
 used s κs a h x y p q j = (tt, (tt, (tt, ((p s h ∙ sym (q s h)) j, tt))))
-
-pub inside : (s : State) → UniqueWhere its.inside.Kinds.ps its.inside.Kinds.r (λ κs a. now (a .1 .0) ≡ recordOf s) its.inside.Reads.Post
-inside s κs a h x y p q j = (tt, (tt, ((p s h ∙ sym (q s h)) j, tt)))

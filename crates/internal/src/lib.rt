@@ -1,0 +1,98 @@
+// What is done inside the processor, without a byte that was read.
+
+use rules::Flags;
+use rules::Internal;
+ghost use Prim.Native.Nat.{_+_, _%_};
+ghost use mathlib.Core.Path.{_≡_};
+ghost use lib.ListN.{length};
+ghost use Rattle.rules.specs.Flags.{withV, withD, withC};
+ghost use Rattle.rules.specs.Operations.{inside};
+ghost use Rattle.state.specs.Makes.{Makes};
+
+const A: usize = 1;
+
+const X: usize = 2;
+
+const Y: usize = 3;
+
+const S: usize = 4;
+
+fn with_c(b: bool, f: Flags) -> Flags
+    ensures { λ r. ⌜ r ≡ withC b f ⌝ }
+{
+    Flags {
+        n: f.n,
+        v: f.v,
+        d: f.d,
+        i: f.i,
+        z: f.z,
+        c: b,
+    }
+}
+
+fn with_v(b: bool, f: Flags) -> Flags
+    ensures { λ r. ⌜ r ≡ withV b f ⌝ }
+{
+    Flags {
+        n: f.n,
+        v: b,
+        d: f.d,
+        i: f.i,
+        z: f.z,
+        c: f.c,
+    }
+}
+
+fn with_d(b: bool, f: Flags) -> Flags
+    ensures { λ r. ⌜ r ≡ withD b f ⌝ }
+{
+    Flags {
+        n: f.n,
+        v: f.v,
+        d: b,
+        i: f.i,
+        z: f.z,
+        c: f.c,
+    }
+}
+
+fn next(v: u8) -> u8
+    ensures { λ r. ⌜ r ≡ (v + 1) % 256 ⌝ }
+{
+    std::num::wrapping_add_u8(v, 1)
+}
+
+fn previous(v: u8) -> u8
+    ensures { λ r. ⌜ r ≡ (v + 255) % 256 ⌝ }
+{
+    std::num::wrapping_sub_u8(v, 1)
+}
+
+pub fn inside(o: Internal, state: &mut [u8])
+    requires { ⌜ length (now state) ≡ 16 ⌝ }
+    ensures { λ r. ⌜ Makes (inside o) (now (state .entry)) (now (state .exit)) ⌝ }
+{
+    let a = state[A];
+    let x = state[X];
+    let y = state[Y];
+    let s = state[S];
+    let f = state::flags_of(state);
+    match o {
+        Internal::Clc => state::set_flags(state, with_c(false, f)),
+        Internal::Sec => state::set_flags(state, with_c(true, f)),
+        Internal::Sei => state::set_flags(state, bytes::with_i(true, f)),
+        Internal::Clv => state::set_flags(state, with_v(false, f)),
+        Internal::Cld => state::set_flags(state, with_d(false, f)),
+        Internal::Sed => state::set_flags(state, with_d(true, f)),
+        Internal::Tax => state::to(state, X, a),
+        Internal::Txa => state::to(state, A, x),
+        Internal::Tay => state::to(state, Y, a),
+        Internal::Tya => state::to(state, A, y),
+        Internal::Tsx => state::to(state, X, s),
+        Internal::Inx => state::to(state, X, next(x)),
+        Internal::Iny => state::to(state, Y, next(y)),
+        Internal::Dex => state::to(state, X, previous(x)),
+        Internal::Dey => state::to(state, Y, previous(y)),
+        Internal::Nop => {}
+    }
+}

@@ -1,0 +1,25 @@
+use Rattle.rules.specs.Cycles.{done}
+use Rattle.rules.specs.Operations.{withPc}
+use Rattle.bus.proofs.Laws.{does, ended, then-call}
+use Rattle.rules.specs.Cycles.{_>>=_}
+use Rattle.rules.specs.Operations.{jumpIndirect}
+use borrow.Author.Needs.{needs}
+use Rattle.processor.proofs.jump_indirect.Statement.{statement}
+use Rattle.processor.proofs.jump_indirect.Tie as tie
+
+returns : tie.Need-returns
+unfolding jumpIndirect _>>=_
+returns c = λ s h.
+    does s (c .before .before .set-pc .ensures s (h .bytes))
+    (then-call (λ to. done (withPc to (s .cpu))) (rw (c .before .before .before .before .before .before .before .before .before .wrapping-add-u16 .ensures) at (c .before .before .before .before .before .before .word-at .ensures s h)) ended)
+
+pub jump-indirect-spec : {M : Type 1} → statement M
+jump-indirect-spec =
+    tie.close
+    (tie.spec
+    (λ c κs. search needs)
+    (λ c κs. search needs)
+    (λ c κs. search needs)
+    (λ c. search needs)
+    (λ c. search needs)
+    returns)

@@ -1,0 +1,10 @@
+use borrow.Author.Needs.{needs}
+use Rattle.sums.proofs.binary.Statement.{statement}
+use Rattle.sums.proofs.binary.Tie as tie
+
+returns : tie.Need-returns
+returns c = rw (c .overflows .ensures, c .before .bit .ensures .0)
+
+pub binary-spec : {M : Type 1} → statement M
+binary-spec =
+    tie.close (tie.spec (λ c κs. search needs) (λ c. search needs) (λ c. search needs) (λ c. search needs) (λ c. search needs) (λ c κs. search needs) returns)

@@ -1,0 +1,21 @@
+use borrow.Author.Needs.{needs}
+use Rattle.sums.proofs.difference.Statement.{statement}
+use Rattle.sums.proofs.difference.Tie as tie
+
+returns : tie.Need-returns
+returns c = rw (c .high-difference .ensures, c .before .high2 .ensures, c .before .before .low-difference .ensures .0, c .before .before .before .high .ensures)
+
+pub difference-spec : {M : Type 1} → statement M
+difference-spec =
+    tie.close
+    (tie.spec
+    (λ c κs. search needs)
+    (λ c. search needs)
+    (λ c. search needs)
+    (λ c κs. search needs)
+    (λ c. search needs)
+    (λ c κs. search needs)
+    (λ c. search needs)
+    (λ c. search needs)
+    (λ c κs. search needs)
+    returns)
