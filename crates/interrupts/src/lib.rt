@@ -29,7 +29,8 @@ fn enter(vector: u16, state: &mut [u8], w: Wiring, image: &[u8], list: &mut [u8]
     let s = state::s_of(state);
     let f = bytes::with_i(true, state::flags_of(state));
     let to = stack::word_at(state, w, image, list, 5, vector, vector + 1);
-    state::set_p_s_pc(state, f, bytes::down(3, s), to);
+    state::set_flags(state, f);
+    state::set_s_pc(state, bytes::down(3, s), to);
 }
 
 // "BRK: PC+1, push PC+2 high, low, P with bit 4 set, FFFE, FFFF; I set." PC stands at PC+1.

@@ -28,6 +28,7 @@ ghost use Rattle.wiring.specs.Wiring.{Stands, Ready};
 ghost use Rattle.bus.specs.Goes.{Goes, Does};
 ghost use Rattle.stack.specs.Words.{wordAt};
 ghost use Rattle.addressing.specs.Start.{fetchedOf, madeBy};
+ghost use Rattle.processor.specs.Pulled.{pulledAt};
 ghost use Rattle.processor.specs.Rewritten.{rewritten};
 ghost use Rattle.processor.specs.Begun.{begun, short};
 ghost use mathlib.Core.Bool.{true, false};
@@ -208,13 +209,23 @@ fn pha(state: &mut [u8], w: Wiring, image: &mut [u8], list: &mut [u8])
     push(a, state, w, image, list)
 }
 
+// "read at S, read at S+1"
+fn pulled(state: &[u8], w: Wiring, image: &[u8], list: &mut [u8], s: u8) -> u8
+    requires { ⌜ Ready w (length (now state)) (length (now image)) (length (now list)) ⌝ }
+    ensures { λ r. ⌜ ((t : State) → Stands execution t (now (state .entry)) w → Goes (pulledAt s) 2 (t .bus) (now (image .entry)) (now (list .entry)) r 4 (t .bus) (now (image .entry)) (now (list .exit))) ⌝ }
+{
+    let above = bytes::stack(bytes::up(1, s));
+    bus::read(state, w, image, list, 2, bytes::stack(s));
+    bus::read(state, w, image, list, 3, above)
+}
+
 // "PLP, RTI keep 5 set, 4 clear"
 fn plp(state: &mut [u8], w: Wiring, image: &[u8], list: &mut [u8])
     requires { ⌜ Ready w (length (now state)) (length (now image)) (length (now list)) ⌝ }
     ensures { λ r. ⌜ ((s : State) → Stands execution s (now (state .entry)) w → Does (perform Plp (s .cpu)) 2 s (now (image .entry)) (now (list .entry)) 4 (now (state .exit)) (now (image .entry)) (now (list .exit))) ⌝ }
 {
     let s = state::s_of(state);
-    let p = stack::pulled(state, w, image, list, s);
+    let p = pulled(state, w, image, list, s);
     state::set_s(state, bytes::up(1, s));
     state::set_flags(state, bytes::flags_of(p));
 }
@@ -224,7 +235,7 @@ fn pla(state: &mut [u8], w: Wiring, image: &[u8], list: &mut [u8])
     ensures { λ r. ⌜ ((s : State) → Stands execution s (now (state .entry)) w → Does (perform Pla (s .cpu)) 2 s (now (image .entry)) (now (list .entry)) 4 (now (state .exit)) (now (image .entry)) (now (list .exit))) ⌝ }
 {
     let s = state::s_of(state);
-    let v = stack::pulled(state, w, image, list, s);
+    let v = pulled(state, w, image, list, s);
     state::set_s(state, bytes::up(1, s));
     state::to(state, 1, v);
 }
@@ -272,9 +283,10 @@ fn rti(state: &mut [u8], w: Wiring, image: &[u8], list: &mut [u8])
     let s = state::s_of(state);
     let two = bytes::stack(bytes::up(2, s));
     let three = bytes::stack(bytes::up(3, s));
-    let p = stack::pulled(state, w, image, list, s);
+    let p = pulled(state, w, image, list, s);
     let to = stack::word_at(state, w, image, list, 4, two, three);
-    state::set_p_s_pc(state, bytes::flags_of(p), bytes::up(3, s), to);
+    state::set_flags(state, bytes::flags_of(p));
+    state::set_s_pc(state, bytes::up(3, s), to);
 }
 
 // "JMP (a): two operands, pointer, and the next location"

@@ -1,4 +1,4 @@
-// Two bytes pushed, one pulled, and an address read from two places. Each access has its number in the step.
+// Two bytes pushed, and an address read from two places. Each access has its number in the step.
 
 use wiring::Wiring;
 ghost use Prim.Native.Nat.{_+_, _<_};
@@ -9,7 +9,7 @@ ghost use Rattle.rules.specs.Cycles.{execution};
 ghost use Rattle.rules.specs.Operations.{pushPc};
 ghost use Rattle.wiring.specs.Wiring.{Wired, Stands, Ready};
 ghost use Rattle.bus.specs.Goes.{Goes};
-ghost use Rattle.stack.specs.Words.{pulledAt, wordAt};
+ghost use Rattle.stack.specs.Words.{wordAt};
 
 // "push PC high, low"
 pub fn push_pc(w: Wiring, image: &mut [u8], list: &mut [u8], k: usize, pc: u16, s: u8)
@@ -18,16 +18,6 @@ pub fn push_pc(w: Wiring, image: &mut [u8], list: &mut [u8], k: usize, pc: u16, 
 {
     bus::push(w, image, list, k, s, (pc / 256) as u8);
     bus::push(w, image, list, k + 1, bytes::down(1, s), (pc % 256) as u8);
-}
-
-// "read at S, read at S+1"
-pub fn pulled(state: &[u8], w: Wiring, image: &[u8], list: &mut [u8], s: u8) -> u8
-    requires { ⌜ Ready w (length (now state)) (length (now image)) (length (now list)) ⌝ }
-    ensures { λ r. ⌜ ((t : State) → Stands execution t (now (state .entry)) w → Goes (pulledAt s) 2 (t .bus) (now (image .entry)) (now (list .entry)) r 4 (t .bus) (now (image .entry)) (now (list .exit))) ⌝ }
-{
-    let above = bytes::stack(bytes::up(1, s));
-    bus::read(state, w, image, list, 2, bytes::stack(s));
-    bus::read(state, w, image, list, 3, above)
 }
 
 // An address from two places.

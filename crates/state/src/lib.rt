@@ -83,12 +83,3 @@ pub fn to_result(state: &mut [u8], made: Result)
     set_flags(state, f);
     state[1] = made.value;
 }
-
-// P, S and PC together.
-pub fn set_p_s_pc(state: &mut [u8], f: Flags, s: u8, pc: u16)
-    requires { ⌜ length (now state) ≡ 16 ⌝ }
-    ensures { λ r. ⌜ Makes (λ c. withPc pc (withP f (withS s c))) (now (state .entry)) (now (state .exit)) ⌝ }
-{
-    set_flags(state, f);
-    set_s_pc(state, s, pc);
-}

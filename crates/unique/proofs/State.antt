@@ -32,6 +32,3 @@ to s κs a h x y p q = lent refl (p s h) (q s h)
 
 pub to-result : (s : State) → UniqueWhere its.to_result.Kinds.ps its.to_result.Kinds.r (λ κs a. now (a .0) ≡ recordOf s) its.to_result.Reads.Post
 to-result s κs a h x y p q = lent refl (p s h) (q s h)
-
-pub set-p-s-pc : (s : State) → UniqueWhere its.set_p_s_pc.Kinds.ps its.set_p_s_pc.Kinds.r (λ κs a. now (a .0) ≡ recordOf s) its.set_p_s_pc.Reads.Post
-set-p-s-pc s κs a h x y p q = lent refl (p s h) (q s h)
