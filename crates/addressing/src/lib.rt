@@ -12,10 +12,6 @@ ghost use Rattle.wiring.specs.Wiring.{Stands, Ready};
 ghost use Rattle.bus.specs.Goes.{Goes};
 ghost use Rattle.addressing.specs.Start.{fetchedOf, madeBy};
 
-const X: usize = 2;
-
-const Y: usize = 3;
-
 // A byte that was found, and the accesses made so far.
 pub struct Loaded {
     pub value: u8,
@@ -117,14 +113,14 @@ pub fn load(m: Mode, state: &[u8], w: Wiring, image: &[u8], list: &mut [u8]) -> 
             count: 3,
         },
         Mode::ZeroX(z) => {
-            let at = zero_indexed(state, w, image, list, z, state[X]);
+            let at = zero_indexed(state, w, image, list, z, state[state::X]);
             Loaded {
                 value: bus::read(state, w, image, list, 3, at as u16),
                 count: 4,
             }
         }
         Mode::ZeroY(z) => {
-            let at = zero_indexed(state, w, image, list, z, state[Y]);
+            let at = zero_indexed(state, w, image, list, z, state[state::Y]);
             Loaded {
                 value: bus::read(state, w, image, list, 3, at as u16),
                 count: 4,
@@ -134,10 +130,10 @@ pub fn load(m: Mode, state: &[u8], w: Wiring, image: &[u8], list: &mut [u8]) -> 
             value: bus::read(state, w, image, list, 3, a),
             count: 4,
         },
-        Mode::AbsoluteX(a) => load_indexed(state, w, image, list, 3, a, state[X]),
-        Mode::AbsoluteY(a) => load_indexed(state, w, image, list, 3, a, state[Y]),
+        Mode::AbsoluteX(a) => load_indexed(state, w, image, list, 3, a, state[state::X]),
+        Mode::AbsoluteY(a) => load_indexed(state, w, image, list, 3, a, state[state::Y]),
         Mode::IndirectX(z) => {
-            let a = indexed_pointer(state, w, image, list, z, state[X]);
+            let a = indexed_pointer(state, w, image, list, z, state[state::X]);
             Loaded {
                 value: bus::read(state, w, image, list, 5, a),
                 count: 6,
@@ -145,12 +141,12 @@ pub fn load(m: Mode, state: &[u8], w: Wiring, image: &[u8], list: &mut [u8]) -> 
         }
         Mode::IndirectY(z) => {
             let a = pointer(state, w, image, list, 2, z);
-            load_indexed(state, w, image, list, 4, a, state[Y])
+            load_indexed(state, w, image, list, 4, a, state[state::Y])
         }
         Mode::IndirectBankY(z) => {
             let a = pointer(state, w, image, list, 2, z);
             let there = wiring::indirect(state, w);
-            load_indexed(state, there, image, list, 4, a, state[Y])
+            load_indexed(state, there, image, list, 4, a, state[state::Y])
         }
     }
 }
@@ -170,11 +166,11 @@ pub fn place(m: Mode, state: &[u8], w: Wiring, image: &[u8], list: &mut [u8]) ->
             count: 2,
         },
         Mode::ZeroX(z) => Spot {
-            address: zero_indexed(state, w, image, list, z, state[X]) as u16,
+            address: zero_indexed(state, w, image, list, z, state[state::X]) as u16,
             count: 3,
         },
         Mode::ZeroY(z) => Spot {
-            address: zero_indexed(state, w, image, list, z, state[Y]) as u16,
+            address: zero_indexed(state, w, image, list, z, state[state::Y]) as u16,
             count: 3,
         },
         Mode::Absolute(a) => Spot {
@@ -182,21 +178,21 @@ pub fn place(m: Mode, state: &[u8], w: Wiring, image: &[u8], list: &mut [u8]) ->
             count: 3,
         },
         Mode::AbsoluteX(a) => Spot {
-            address: indexed(state, w, image, list, 3, a, state[X]),
+            address: indexed(state, w, image, list, 3, a, state[state::X]),
             count: 4,
         },
         Mode::AbsoluteY(a) => Spot {
-            address: indexed(state, w, image, list, 3, a, state[Y]),
+            address: indexed(state, w, image, list, 3, a, state[state::Y]),
             count: 4,
         },
         Mode::IndirectX(z) => Spot {
-            address: indexed_pointer(state, w, image, list, z, state[X]),
+            address: indexed_pointer(state, w, image, list, z, state[state::X]),
             count: 5,
         },
         Mode::IndirectY(z) => {
             let a = pointer(state, w, image, list, 2, z);
             Spot {
-                address: indexed(state, w, image, list, 4, a, state[Y]),
+                address: indexed(state, w, image, list, 4, a, state[state::Y]),
                 count: 5,
             }
         }
@@ -204,7 +200,7 @@ pub fn place(m: Mode, state: &[u8], w: Wiring, image: &[u8], list: &mut [u8]) ->
             let a = pointer(state, w, image, list, 2, z);
             let there = wiring::indirect(state, w);
             Spot {
-                address: indexed(state, there, image, list, 4, a, state[Y]),
+                address: indexed(state, there, image, list, 4, a, state[state::Y]),
                 count: 5,
             }
         }

@@ -2,7 +2,7 @@
 
 ghost use Prim.Native.Nat.{_+_, _≤_};
 ghost use mathlib.Core.Path.{_≡_};
-ghost use Rattle.rules.specs.Basics.{bit, bitOf, address, sum8};
+ghost use Rattle.rules.specs.Basics.{bit, bitOf, address};
 ghost use Rattle.rules.specs.Flags.{flagsOf, byteOf, byteOf4, nz, withC, withI};
 ghost use Rattle.rules.specs.Operations.{stack, down};
 use rules::Flags;
@@ -96,11 +96,4 @@ pub fn down(k: u8, s: u8) -> u8
     ensures { λ r. ⌜ r ≡ down k s ⌝ }
 {
     std::num::wrapping_sub_u8(s, k)
-}
-
-// S after k pulls.
-pub fn up(k: u8, s: u8) -> u8
-    ensures { λ r. ⌜ r ≡ sum8 s k ⌝ }
-{
-    std::num::wrapping_add_u8(s, k)
 }

@@ -9,14 +9,6 @@ ghost use Rattle.rules.specs.Flags.{withV, withD, withC};
 ghost use Rattle.rules.specs.Operations.{inside};
 ghost use Rattle.state.specs.Makes.{Makes};
 
-const A: usize = 1;
-
-const X: usize = 2;
-
-const Y: usize = 3;
-
-const S: usize = 4;
-
 fn with_c(b: bool, f: Flags) -> Flags
     ensures { λ r. ⌜ r ≡ withC b f ⌝ }
 {
@@ -72,10 +64,10 @@ pub fn inside(o: Internal, state: &mut [u8])
     requires { ⌜ length (now state) ≡ 16 ⌝ }
     ensures { λ r. ⌜ Makes (inside o) (now (state .entry)) (now (state .exit)) ⌝ }
 {
-    let a = state[A];
-    let x = state[X];
-    let y = state[Y];
-    let s = state[S];
+    let a = state[state::A];
+    let x = state[state::X];
+    let y = state[state::Y];
+    let s = state[state::S];
     let f = state::flags_of(state);
     match o {
         Internal::Clc => state::set_flags(state, with_c(false, f)),
@@ -84,15 +76,15 @@ pub fn inside(o: Internal, state: &mut [u8])
         Internal::Clv => state::set_flags(state, with_v(false, f)),
         Internal::Cld => state::set_flags(state, with_d(false, f)),
         Internal::Sed => state::set_flags(state, with_d(true, f)),
-        Internal::Tax => state::to(state, X, a),
-        Internal::Txa => state::to(state, A, x),
-        Internal::Tay => state::to(state, Y, a),
-        Internal::Tya => state::to(state, A, y),
-        Internal::Tsx => state::to(state, X, s),
-        Internal::Inx => state::to(state, X, next(x)),
-        Internal::Iny => state::to(state, Y, next(y)),
-        Internal::Dex => state::to(state, X, previous(x)),
-        Internal::Dey => state::to(state, Y, previous(y)),
+        Internal::Tax => state::to(state, state::X, a),
+        Internal::Txa => state::to(state, state::A, x),
+        Internal::Tay => state::to(state, state::Y, a),
+        Internal::Tya => state::to(state, state::A, y),
+        Internal::Tsx => state::to(state, state::X, s),
+        Internal::Inx => state::to(state, state::X, next(x)),
+        Internal::Iny => state::to(state, state::Y, next(y)),
+        Internal::Dex => state::to(state, state::X, previous(x)),
+        Internal::Dey => state::to(state, state::Y, previous(y)),
         Internal::Nop => {}
     }
 }

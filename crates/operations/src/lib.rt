@@ -6,30 +6,24 @@ ghost use lib.ListN.{length};
 ghost use Rattle.rules.specs.Operations.{used};
 ghost use Rattle.state.specs.Makes.{Makes};
 
-const A: usize = 1;
-
-const X: usize = 2;
-
-const Y: usize = 3;
-
 pub fn used(o: Reading, v: u8, state: &mut [u8])
     requires { ⌜ length (now state) ≡ 16 ⌝ }
     ensures { λ r. ⌜ Makes (used o v) (now (state .entry)) (now (state .exit)) ⌝ }
 {
-    let a = state[A];
-    let x = state[X];
-    let y = state[Y];
+    let a = state[state::A];
+    let x = state[state::X];
+    let y = state[state::Y];
     let f = state::flags_of(state);
     match o {
-        Reading::Ora => state::to(state, A, a | v),
-        Reading::And => state::to(state, A, a & v),
-        Reading::Eor => state::to(state, A, a ^ v),
+        Reading::Ora => state::to(state, state::A, a | v),
+        Reading::And => state::to(state, state::A, a & v),
+        Reading::Eor => state::to(state, state::A, a ^ v),
         Reading::Adc => state::to_result(state, sums::adc(a, v, f)),
-        Reading::Lda => state::to(state, A, v),
+        Reading::Lda => state::to(state, state::A, v),
         Reading::Cmp => state::set_flags(state, arithmetic::compare(a, v, f)),
         Reading::Sbc => state::to_result(state, sums::sbc(a, v, f)),
-        Reading::Ldx => state::to(state, X, v),
-        Reading::Ldy => state::to(state, Y, v),
+        Reading::Ldx => state::to(state, state::X, v),
+        Reading::Ldy => state::to(state, state::Y, v),
         Reading::Cpx => state::set_flags(state, arithmetic::compare(x, v, f)),
         Reading::Cpy => state::set_flags(state, arithmetic::compare(y, v, f)),
         Reading::Bit => state::set_flags(state, arithmetic::bit_test(a, v, f)),

@@ -38,9 +38,9 @@ fn register_of(o: Storing, state: &[u8]) -> u8
     ensures { λ r. ⌜ ((s : State) → now (state .entry) ≡ recordOf s → r ≡ registerOf o (s .cpu)) ⌝ }
 {
     match o {
-        Storing::Sta => state[1],
-        Storing::Stx => state[2],
-        Storing::Sty => state[3],
+        Storing::Sta => state[state::A],
+        Storing::Stx => state[state::X],
+        Storing::Sty => state[state::Y],
     }
 }
 
@@ -209,12 +209,19 @@ fn pha(state: &mut [u8], w: Wiring, image: &mut [u8], list: &mut [u8])
     push(a, state, w, image, list)
 }
 
+// S after k pulls.
+fn up(k: u8, s: u8) -> u8
+    ensures { λ r. ⌜ r ≡ sum8 s k ⌝ }
+{
+    std::num::wrapping_add_u8(s, k)
+}
+
 // "read at S, read at S+1"
 fn pulled(state: &[u8], w: Wiring, image: &[u8], list: &mut [u8], s: u8) -> u8
     requires { ⌜ Ready w (length (now state)) (length (now image)) (length (now list)) ⌝ }
     ensures { λ r. ⌜ ((t : State) → Stands execution t (now (state .entry)) w → Goes (pulledAt s) 2 (t .bus) (now (image .entry)) (now (list .entry)) r 4 (t .bus) (now (image .entry)) (now (list .exit))) ⌝ }
 {
-    let above = bytes::stack(bytes::up(1, s));
+    let above = bytes::stack(up(1, s));
     bus::read(state, w, image, list, 2, bytes::stack(s));
     bus::read(state, w, image, list, 3, above)
 }
@@ -226,7 +233,7 @@ fn plp(state: &mut [u8], w: Wiring, image: &[u8], list: &mut [u8])
 {
     let s = state::s_of(state);
     let p = pulled(state, w, image, list, s);
-    state::set_s(state, bytes::up(1, s));
+    state::set_s(state, up(1, s));
     state::set_flags(state, bytes::flags_of(p));
 }
 
@@ -236,8 +243,8 @@ fn pla(state: &mut [u8], w: Wiring, image: &[u8], list: &mut [u8])
 {
     let s = state::s_of(state);
     let v = pulled(state, w, image, list, s);
-    state::set_s(state, bytes::up(1, s));
-    state::to(state, 1, v);
+    state::set_s(state, up(1, s));
+    state::to(state, state::A, v);
 }
 
 // "JSR: low, read at S, push PC+2 high, low, then high operand." PC stands at PC+2.
@@ -258,8 +265,8 @@ fn word_above(state: &[u8], w: Wiring, image: &[u8], list: &mut [u8], k: usize, 
     requires { ⌜ (k < 6) × Ready w (length (now state)) (length (now image)) (length (now list)) ⌝ }
     ensures { λ r. ⌜ ((t : State) → Stands execution t (now (state .entry)) w → Goes (wordAt (stack (sum8 s 1)) (stack (sum8 s 2))) k (t .bus) (now (image .entry)) (now (list .entry)) r (k + 2) (t .bus) (now (image .entry)) (now (list .exit))) ⌝ }
 {
-    let one = bytes::stack(bytes::up(1, s));
-    let two = bytes::stack(bytes::up(2, s));
+    let one = bytes::stack(up(1, s));
+    let two = bytes::stack(up(2, s));
     stack::word_at(state, w, image, list, k, one, two)
 }
 
@@ -272,7 +279,7 @@ fn rts(state: &mut [u8], w: Wiring, image: &[u8], list: &mut [u8])
     bus::read(state, w, image, list, 2, bytes::stack(s));
     let a = word_above(state, w, image, list, 3, s);
     bus::read(state, w, image, list, 5, a);
-    state::set_s_pc(state, bytes::up(2, s), std::num::wrapping_add_u16(a, 1));
+    state::set_s_pc(state, up(2, s), std::num::wrapping_add_u16(a, 1));
 }
 
 // "RTI: PC+1, read at S, pull P, low, high."
@@ -281,12 +288,12 @@ fn rti(state: &mut [u8], w: Wiring, image: &[u8], list: &mut [u8])
     ensures { λ r. ⌜ ((s : State) → Stands execution s (now (state .entry)) w → Does (rti (s .cpu)) 2 s (now (image .entry)) (now (list .entry)) 6 (now (state .exit)) (now (image .entry)) (now (list .exit))) ⌝ }
 {
     let s = state::s_of(state);
-    let two = bytes::stack(bytes::up(2, s));
-    let three = bytes::stack(bytes::up(3, s));
+    let two = bytes::stack(up(2, s));
+    let three = bytes::stack(up(3, s));
     let p = pulled(state, w, image, list, s);
     let to = stack::word_at(state, w, image, list, 4, two, three);
     state::set_flags(state, bytes::flags_of(p));
-    state::set_s_pc(state, bytes::up(3, s), to);
+    state::set_s_pc(state, up(3, s), to);
 }
 
 // "JMP (a): two operands, pointer, and the next location"
@@ -304,7 +311,7 @@ fn accumulated(o: Changing, state: &mut [u8])
     requires { ⌜ length (now state) ≡ 16 ⌝ }
     ensures { λ r. ⌜ Makes (λ c. withResult (changed o (c .a) (c .p)) c) (now (state .entry)) (now (state .exit)) ⌝ }
 {
-    let a = state[1];
+    let a = state[state::A];
     let f = state::flags_of(state);
     state::to_result(state, arithmetic::changed(o, a, f))
 }

@@ -12,6 +12,15 @@ ghost use Rattle.bus.specs.Goes.{moved};
 ghost use Rattle.rules.specs.Operations.{withP, withS, withPc, withResult};
 ghost use Rattle.state.specs.Makes.{Makes};
 
+// Where A, X, Y and S stand.
+pub const A: usize = 1;
+
+pub const X: usize = 2;
+
+pub const Y: usize = 3;
+
+pub const S: usize = 4;
+
 pub fn pc_of(state: &[u8]) -> u16
     requires { ⌜ length (now state) ≡ 16 ⌝ }
     ensures { λ r. ⌜ ((s : State) → now (state .entry) ≡ recordOf s → r ≡ s .cpu .pc) ⌝ }
@@ -23,7 +32,7 @@ pub fn s_of(state: &[u8]) -> u8
     requires { ⌜ length (now state) ≡ 16 ⌝ }
     ensures { λ r. ⌜ ((s : State) → now (state .entry) ≡ recordOf s → r ≡ s .cpu .s) ⌝ }
 {
-    state[4]
+    state[S]
 }
 
 pub fn set_pc(state: &mut [u8], pc: u16)
@@ -38,7 +47,7 @@ pub fn set_s(state: &mut [u8], s: u8)
     requires { ⌜ length (now state) ≡ 16 ⌝ }
     ensures { λ r. ⌜ Makes (withS s) (now (state .entry)) (now (state .exit)) ⌝ }
 {
-    state[4] = s;
+    state[S] = s;
 }
 
 // S and PC together.
@@ -81,5 +90,5 @@ pub fn to_result(state: &mut [u8], made: Result)
 {
     let f = made.flags;
     set_flags(state, f);
-    state[1] = made.value;
+    state[A] = made.value;
 }

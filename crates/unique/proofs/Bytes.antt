@@ -30,8 +30,5 @@ stack κs a x y = answer refl
 pub down : Unique its.down.Kinds.ps its.down.Kinds.r its.down.Reads.Post
 down κs a x y = answer refl
 
-pub up : Unique its.up.Kinds.ps its.up.Kinds.r its.up.Reads.Post
-up κs a x y = answer refl
-
 pub bit : Unique its.bit.Kinds.ps its.bit.Kinds.r its.bit.Reads.Post
 bit κs a x y p q = answer refl (p .0) (q .0)
