@@ -30,7 +30,8 @@ fn enter(vector: u16, state: &mut [u8], w: Wiring, image: &[u8], list: &mut [u8]
     let f = bytes::with_i(true, state::flags_of(state));
     let to = stack::word_at(state, w, image, list, 5, vector, vector + 1);
     state::set_flags(state, f);
-    state::set_s_pc(state, bytes::down(3, s), to);
+    state::set_s(state, bytes::down(3, s));
+    state::set_pc(state, to);
 }
 
 // "BRK: PC+1, push PC+2 high, low, P with bit 4 set, FFFE, FFFF; I set." PC stands at PC+1.

@@ -19,7 +19,7 @@ ghost use Rattle.rules.specs.Record.{recordOf};
 ghost use Rattle.rules.specs.Basics.{sum8};
 ghost use Rattle.rules.specs.Addressing.{bankOf};
 ghost use Rattle.rules.specs.Arithmetic.{changed};
-ghost use Rattle.rules.specs.Operations.{withP, withS, withResult, registerOf, target, taken, stack, push, jsr, rts, rti, jumpIndirect, perform, next, operate};
+ghost use Rattle.rules.specs.Operations.{withP, withS, withPc, withResult, registerOf, target, taken, stack, push, jsr, rts, rti, jumpIndirect, perform, next, operate};
 ghost use Rattle.rules.specs.Opcodes.{decode, isDefined};
 ghost use Rattle.decode.specs.Numbers.{numberOf};
 ghost use Rattle.rules.specs.Flags.{withI};
@@ -247,6 +247,15 @@ fn pla(state: &mut [u8], w: Wiring, image: &[u8], list: &mut [u8])
     state::to(state, state::A, v);
 }
 
+// S and PC together.
+fn set_s_pc(state: &mut [u8], s: u8, pc: u16)
+    requires { ⌜ length (now state) ≡ 16 ⌝ }
+    ensures { λ r. ⌜ Makes (λ c. withPc pc (withS s c)) (now (state .entry)) (now (state .exit)) ⌝ }
+{
+    state::set_s(state, s);
+    state::set_pc(state, pc);
+}
+
 // "JSR: low, read at S, push PC+2 high, low, then high operand." PC stands at PC+2.
 fn jsr(low: u8, state: &mut [u8], w: Wiring, image: &mut [u8], list: &mut [u8])
     requires { ⌜ Ready w (length (now state)) (length (now image)) (length (now list)) ⌝ }
@@ -257,7 +266,7 @@ fn jsr(low: u8, state: &mut [u8], w: Wiring, image: &mut [u8], list: &mut [u8])
     bus::read(state, w, image, list, 2, bytes::stack(s));
     stack::push_pc(w, image, list, 3, pc, s);
     let high = bus::read(state, w, image, list, 5, pc);
-    state::set_s_pc(state, bytes::down(2, s), bytes::join(low, high));
+    set_s_pc(state, bytes::down(2, s), bytes::join(low, high));
 }
 
 // Two bytes from S + 1 and S + 2, as an address.
@@ -279,7 +288,7 @@ fn rts(state: &mut [u8], w: Wiring, image: &[u8], list: &mut [u8])
     bus::read(state, w, image, list, 2, bytes::stack(s));
     let a = word_above(state, w, image, list, 3, s);
     bus::read(state, w, image, list, 5, a);
-    state::set_s_pc(state, up(2, s), std::num::wrapping_add_u16(a, 1));
+    set_s_pc(state, up(2, s), std::num::wrapping_add_u16(a, 1));
 }
 
 // "RTI: PC+1, read at S, pull P, low, high."
@@ -293,7 +302,7 @@ fn rti(state: &mut [u8], w: Wiring, image: &[u8], list: &mut [u8])
     let p = pulled(state, w, image, list, s);
     let to = stack::word_at(state, w, image, list, 4, two, three);
     state::set_flags(state, bytes::flags_of(p));
-    state::set_s_pc(state, up(3, s), to);
+    set_s_pc(state, up(3, s), to);
 }
 
 // "JMP (a): two operands, pointer, and the next location"

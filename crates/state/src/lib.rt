@@ -50,15 +50,6 @@ pub fn set_s(state: &mut [u8], s: u8)
     state[S] = s;
 }
 
-// S and PC together.
-pub fn set_s_pc(state: &mut [u8], s: u8, pc: u16)
-    requires { ⌜ length (now state) ≡ 16 ⌝ }
-    ensures { λ r. ⌜ Makes (λ c. withPc pc (withS s c)) (now (state .entry)) (now (state .exit)) ⌝ }
-{
-    set_s(state, s);
-    set_pc(state, pc);
-}
-
 pub fn flags_of(state: &[u8]) -> Flags
     requires { ⌜ length (now state) ≡ 16 ⌝ }
     ensures { λ r. ⌜ ((s : State) → now (state .entry) ≡ recordOf s → r ≡ s .cpu .p) ⌝ }

@@ -21,9 +21,6 @@ set-pc s κs a h x y p q = lent refl (p s h) (q s h)
 pub set-s : (s : State) → UniqueWhere its.set_s.Kinds.ps its.set_s.Kinds.r (λ κs a. now (a .0) ≡ recordOf s) its.set_s.Reads.Post
 set-s s κs a h x y p q = lent refl (p s h) (q s h)
 
-pub set-s-pc : (s : State) → UniqueWhere its.set_s_pc.Kinds.ps its.set_s_pc.Kinds.r (λ κs a. now (a .0) ≡ recordOf s) its.set_s_pc.Reads.Post
-set-s-pc s κs a h x y p q = lent refl (p s h) (q s h)
-
 pub set-flags : (s : State) → UniqueWhere its.set_flags.Kinds.ps its.set_flags.Kinds.r (λ κs a. now (a .0) ≡ recordOf s) its.set_flags.Reads.Post
 set-flags s κs a h x y p q = lent refl (p s h) (q s h)
 

@@ -1,8 +1,8 @@
 use Rattle.rules.specs.Operations.{withS}
 use Rattle.bus.specs.Goes.{moved}
 use borrow.Author.Needs.{needs}
-use Rattle.state.proofs.set_s_pc.Statement.{statement}
-use Rattle.state.proofs.set_s_pc.Tie as tie
+use Rattle.processor.proofs.set_s_pc.Statement.{statement}
+use Rattle.processor.proofs.set_s_pc.Tie as tie
 
 returns : tie.Need-returns
 returns c = λ s e. c .before .before .set-pc .ensures (moved (withS _ (s .cpu)) (s .bus) s) (c .before .before .before .before .before .before .set-s .ensures s e)
