@@ -10,7 +10,8 @@ ghost use Rattle.rules.specs.Cycles.{Bank, execution};
 ghost use Rattle.rules.specs.Addressing.{oldPage, pointer, zeroIndexed, indexedPointer, loadIndexed, indexed, load, place};
 ghost use Rattle.wiring.specs.Wiring.{Stands, Ready};
 ghost use Rattle.bus.specs.Goes.{Goes};
-ghost use Rattle.addressing.specs.Start.{fetchedOf, madeBy};
+ghost use Rattle.addressing.specs.Start.{fetchedOf};
+ghost use Rattle.rules.proofs.Lengths.{placeMost};
 
 // A byte that was found, and the accesses made so far.
 pub struct Loaded {
@@ -154,7 +155,7 @@ pub fn load(m: Mode, state: &[u8], w: Wiring, image: &[u8], list: &mut [u8]) -> 
 // The address where a store or a shift/INC/DEC finds its data.
 pub fn place(m: Mode, state: &[u8], w: Wiring, image: &[u8], list: &mut [u8]) -> Spot
     requires { ⌜ Ready w (length (now state)) (length (now image)) (length (now list)) ⌝ }
-    ensures { λ r. ⌜ ((r .count ≤ 5) × (r .count ≤ fetchedOf m + madeBy m)) × ((s : State) → Stands execution s (now (state .entry)) w → Goes (place (s .cpu) m) (fetchedOf m) (s .bus) (now (image .entry)) (now (list .entry)) (r .address) (r .count) (s .bus) (now (image .entry)) (now (list .exit))) ⌝ }
+    ensures { λ r. ⌜ ((r .count ≤ 5) × (r .count ≤ fetchedOf m + placeMost m)) × ((s : State) → Stands execution s (now (state .entry)) w → Goes (place (s .cpu) m) (fetchedOf m) (s .bus) (now (image .entry)) (now (list .entry)) (r .address) (r .count) (s .bus) (now (image .entry)) (now (list .exit))) ⌝ }
 {
     match m {
         Mode::Immediate(v) => Spot {

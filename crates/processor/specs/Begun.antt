@@ -4,7 +4,8 @@ use mathlib.Core.Bool.{Bool, true}
 use lib.Dec.{leb}
 use Rattle.rules.specs.declared.Instruction.{Instruction}
 use Rattle.rules.specs.declared.Instruction.the-variants.{Read, Store, Change, Accumulator, Implied, Branch, Jump, JumpIndirect, Jsr, Rts, Rti, Brk, Php, Plp, Pha, Pla, Txs, Cli}
-use Rattle.addressing.specs.Start.{fetchedOf, madeBy}
+use Rattle.addressing.specs.Start.{fetchedOf}
+use Rattle.rules.proofs.Lengths.{placeMost}
 
 -- the opcode's, and the operand's or the one at PC+1
 abbrev pub begun : Instruction → ℕ
@@ -31,7 +32,7 @@ begun Cli = 2
 abbrev pub short : Instruction → Bool
 short (Read o m) = true
 short (Store o m) = true
-short (Change o m) = leb (fetchedOf m + madeBy m) 4
+short (Change o m) = leb (fetchedOf m + placeMost m) 4
 short (Accumulator o) = true
 short (Implied o) = true
 short (Branch t o) = true

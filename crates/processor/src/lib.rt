@@ -27,7 +27,8 @@ ghost use Rattle.state.specs.Makes.{Makes};
 ghost use Rattle.wiring.specs.Wiring.{Stands, Ready};
 ghost use Rattle.bus.specs.Goes.{Goes, Does};
 ghost use Rattle.stack.specs.Words.{wordAt};
-ghost use Rattle.addressing.specs.Start.{fetchedOf, madeBy};
+ghost use Rattle.addressing.specs.Start.{fetchedOf};
+ghost use Rattle.rules.proofs.Lengths.{placeMost};
 ghost use Rattle.processor.specs.Pulled.{pulledAt};
 ghost use Rattle.processor.specs.Rewritten.{rewritten};
 ghost use Rattle.processor.specs.Begun.{begun, short};
@@ -112,7 +113,7 @@ fn change(
     image: &mut [u8],
     list: &mut [u8],
 ) -> usize
-    requires { ⌜ (fetchedOf m + madeBy m ≤ 4) × Ready w (length (now state)) (length (now image)) (length (now list)) ⌝ }
+    requires { ⌜ (fetchedOf m + placeMost m ≤ 4) × Ready w (length (now state)) (length (now image)) (length (now list)) ⌝ }
     ensures { λ r. ⌜ (r ≤ 7) × ((s : State) → Stands execution s (now (state .entry)) w → Does (perform (Change o m) (s .cpu)) (fetchedOf m) s (now (image .entry)) (now (list .entry)) r (now (state .exit)) (now (image .exit)) (now (list .exit))) ⌝ }
 {
     let at = addressing::place(m, state, w, image, list);

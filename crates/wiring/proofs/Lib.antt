@@ -1,1 +1,1 @@
-pub mod Banks
+pub mod Plain

@@ -10,7 +10,7 @@ ghost use Rattle.rules.specs.Bus.{is6508};
 ghost use Rattle.rules.specs.Record.{recordOf};
 ghost use Rattle.wiring.specs.Wiring.{Sound, Stands};
 
-// How a step's accesses reach the image. Addresses below `plain` have a rule of the part's own, those from `top` on are protected; `base` is
+// Addresses below `plain` have a rule of the part's own, those from `top` on are protected; `base` is
 // where the bank begins in the image.
 pub struct Wiring {
     pub pins: u8,
@@ -21,7 +21,7 @@ pub struct Wiring {
     pub base: usize,
 }
 
-// The 6508's first two pages have a rule of their own, and no address of the 6502.
+// The first two pages of the 6508 have a rule of their own; on the 6502 no address has.
 fn plain_of(part: u8) -> u16
     ensures { λ r. ⌜ r ≡ (if is6508 part then 512 else 0) ⌝ }
 {

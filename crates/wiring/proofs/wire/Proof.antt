@@ -3,7 +3,7 @@ use mathlib.Core.Path.{_≡_, sym, refl, _∙_}
 use borrow.Author.Tests.{ne-eqb}
 use Rattle.rules.specs.Bus.{selected}
 use Rattle.rules.specs.Record.{recordOf}
-use Rattle.wiring.proofs.Banks.{plain-is}
+use Rattle.wiring.proofs.Plain.{plain-is}
 use borrow.Author.Needs.{needs}
 use Rattle.wiring.proofs.wire.Statement.{statement}
 use Rattle.wiring.proofs.wire.Tie as tie
