@@ -11,7 +11,7 @@ use rules::Result;
 pub fn compare(r: u8, m: u8, f: Flags) -> Flags
     ensures { λ result. ⌜ result ≡ compare r m f ⌝ }
 {
-    bytes::nzc(std::num::wrapping_sub_u8(r, m), m <= r, f)
+    flags::nzc(std::num::wrapping_sub_u8(r, m), m <= r, f)
 }
 
 // "BIT takes N, V from memory, Z from the AND."
@@ -19,8 +19,8 @@ pub fn bit_test(a: u8, m: u8, f: Flags) -> Flags
     ensures { λ r. ⌜ r ≡ bitTest a m f ⌝ }
 {
     Flags {
-        n: bytes::has(m, 128),
-        v: bytes::has(m, 64),
+        n: flags::has(m, 128),
+        v: flags::has(m, 64),
         d: f.d,
         i: f.i,
         z: a & m == 0,
@@ -34,7 +34,7 @@ fn shifted(v: u8, out: bool, f: Flags) -> Result
 {
     Result {
         value: v,
-        flags: bytes::nzc(v, out, f),
+        flags: flags::nzc(v, out, f),
     }
 }
 
@@ -44,7 +44,7 @@ fn stepped(v: u8, f: Flags) -> Result
 {
     Result {
         value: v,
-        flags: bytes::nzc(v, f.c, f),
+        flags: flags::nzc(v, f.c, f),
     }
 }
 
@@ -53,10 +53,10 @@ pub fn changed(o: Changing, v: u8, f: Flags) -> Result
     ensures { λ r. ⌜ r ≡ changed o v f ⌝ }
 {
     match o {
-        Changing::Asl => shifted(v % 128 * 2, bytes::has(v, 128), f),
-        Changing::Rol => shifted(v % 128 * 2 + bytes::bit(f.c), bytes::has(v, 128), f),
-        Changing::Lsr => shifted(v / 2, bytes::has(v, 1), f),
-        Changing::Ror => shifted(v / 2 + bytes::bit(f.c) * 128, bytes::has(v, 1), f),
+        Changing::Asl => shifted(v % 128 * 2, flags::has(v, 128), f),
+        Changing::Rol => shifted(v % 128 * 2 + flags::bit(f.c), flags::has(v, 128), f),
+        Changing::Lsr => shifted(v / 2, flags::has(v, 1), f),
+        Changing::Ror => shifted(v / 2 + flags::bit(f.c) * 128, flags::has(v, 1), f),
         Changing::Dec => stepped(std::num::wrapping_sub_u8(v, 1), f),
         Changing::Inc => stepped(std::num::wrapping_add_u8(v, 1), f),
     }

@@ -72,7 +72,7 @@ pub fn inside(o: Internal, state: &mut [u8])
     match o {
         Internal::Clc => state::set_flags(state, with_c(false, f)),
         Internal::Sec => state::set_flags(state, with_c(true, f)),
-        Internal::Sei => state::set_flags(state, bytes::with_i(true, f)),
+        Internal::Sei => state::set_flags(state, flags::with_i(true, f)),
         Internal::Clv => state::set_flags(state, with_v(false, f)),
         Internal::Cld => state::set_flags(state, with_d(false, f)),
         Internal::Sed => state::set_flags(state, with_d(true, f)),

@@ -27,7 +27,7 @@ fn enter(vector: u16, state: &mut [u8], w: Wiring, image: &[u8], list: &mut [u8]
     ensures { λ r. ⌜ ((s : State) → Stands execution s (now (state .entry)) w → Does (enter vector (s .cpu)) 5 s (now (image .entry)) (now (list .entry)) 7 (now (state .exit)) (now (image .entry)) (now (list .exit))) ⌝ }
 {
     let s = state::s_of(state);
-    let f = bytes::with_i(true, state::flags_of(state));
+    let f = flags::with_i(true, state::flags_of(state));
     let to = stack::word_at(state, w, image, list, 5, vector, vector + 1);
     state::set_flags(state, f);
     state::set_s(state, bytes::down(3, s));
@@ -41,7 +41,7 @@ pub fn brk(state: &mut [u8], w: Wiring, image: &mut [u8], list: &mut [u8])
 {
     let back = std::num::wrapping_add_u16(state::pc_of(state), 1);
     let s = state::s_of(state);
-    let p = bytes::with_bit_4(state::flags_of(state));
+    let p = flags::with_bit_4(state::flags_of(state));
     push_three(w, image, list, back, s, p);
     enter(65534, state, w, image, list);
 }
@@ -62,7 +62,7 @@ pub fn interrupt(vector: u16, state: &mut [u8], w: Wiring, image: &mut [u8], lis
 {
     let pc = state::pc_of(state);
     let s = state::s_of(state);
-    let p = bytes::byte_of(state::flags_of(state));
+    let p = flags::byte_of(state::flags_of(state));
     two_reads(state, w, image, list, pc);
     push_three(w, image, list, pc, s, p);
     enter(vector, state, w, image, list);

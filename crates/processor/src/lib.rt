@@ -198,7 +198,7 @@ fn php(state: &mut [u8], w: Wiring, image: &mut [u8], list: &mut [u8])
     requires { ⌜ Ready w (length (now state)) (length (now image)) (length (now list)) ⌝ }
     ensures { λ r. ⌜ ((s : State) → Stands execution s (now (state .entry)) w → Does (perform Php (s .cpu)) 2 s (now (image .entry)) (now (list .entry)) 3 (now (state .exit)) (now (image .exit)) (now (list .exit))) ⌝ }
 {
-    let p = bytes::with_bit_4(state::flags_of(state));
+    let p = flags::with_bit_4(state::flags_of(state));
     push(p, state, w, image, list)
 }
 
@@ -235,7 +235,7 @@ fn plp(state: &mut [u8], w: Wiring, image: &[u8], list: &mut [u8])
     let s = state::s_of(state);
     let p = pulled(state, w, image, list, s);
     state::set_s(state, up(1, s));
-    state::set_flags(state, bytes::flags_of(p));
+    state::set_flags(state, flags::flags_of(p));
 }
 
 fn pla(state: &mut [u8], w: Wiring, image: &[u8], list: &mut [u8])
@@ -302,7 +302,7 @@ fn rti(state: &mut [u8], w: Wiring, image: &[u8], list: &mut [u8])
     let three = bytes::stack(up(3, s));
     let p = pulled(state, w, image, list, s);
     let to = stack::word_at(state, w, image, list, 4, two, three);
-    state::set_flags(state, bytes::flags_of(p));
+    state::set_flags(state, flags::flags_of(p));
     set_s_pc(state, up(3, s), to);
 }
 
@@ -339,7 +339,7 @@ fn cli(state: &mut [u8])
     ensures { λ r. ⌜ Makes (λ c. withP (withI false (c .p)) c) (now (state .entry)) (now (state .exit)) ⌝ }
 {
     let f = state::flags_of(state);
-    state::set_flags(state, bytes::with_i(false, f))
+    state::set_flags(state, flags::with_i(false, f))
 }
 
 // An instruction's own accesses, and what it leaves. Answers the accesses made so far.

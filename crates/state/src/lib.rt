@@ -54,14 +54,14 @@ pub fn flags_of(state: &[u8]) -> Flags
     requires { ⌜ length (now state) ≡ 16 ⌝ }
     ensures { λ r. ⌜ ((s : State) → now (state .entry) ≡ recordOf s → r ≡ s .cpu .p) ⌝ }
 {
-    bytes::flags_of(state[5])
+    flags::flags_of(state[5])
 }
 
 pub fn set_flags(state: &mut [u8], f: Flags)
     requires { ⌜ length (now state) ≡ 16 ⌝ }
     ensures { λ r. ⌜ Makes (withP f) (now (state .entry)) (now (state .exit)) ⌝ }
 {
-    state[5] = bytes::byte_of(f);
+    state[5] = flags::byte_of(f);
 }
 
 // A byte into a register of this place, and its N and Z.
@@ -70,7 +70,7 @@ pub fn to(state: &mut [u8], register: usize, v: u8)
     ensures { λ r. ⌜ ((s : State) → now (state .entry) ≡ recordOf s → now (state .exit) ≡ set (recordOf (moved (withP (nz v (s .cpu .p)) (s .cpu)) (s .bus) s)) register v) ⌝ }
 {
     let f = flags_of(state);
-    set_flags(state, bytes::nzc(v, f.c, f));
+    set_flags(state, flags::nzc(v, f.c, f));
     state[register] = v;
 }
 

@@ -32,7 +32,7 @@ fn overflows(a: u8, m: u8, l: u16) -> bool
 fn binary(a: u8, m: u8, f: Flags) -> Result
     ensures { λ r. ⌜ r ≡ binaryAdc a m f ⌝ }
 {
-    let c = bytes::bit(f.c) as u16;
+    let c = flags::bit(f.c) as u16;
     let t = a as u16 + m as u16 + c;
     let value = (t % 256) as u8;
     Result {
@@ -76,7 +76,7 @@ fn high_sum(t: u16) -> u16
 fn decimal(a: u8, m: u8, f: Flags) -> Result
     ensures { λ r. ⌜ r ≡ decimalAdc a m f ⌝ }
 {
-    let c = bytes::bit(f.c) as u16;
+    let c = flags::bit(f.c) as u16;
     let l = low_sum(a, m, c);
     let high_a = high(a);
     let high_m = high(m);
@@ -140,7 +140,7 @@ pub fn sbc(a: u8, m: u8, f: Flags) -> Result
     if f.d {
         let flags = plain.flags;
         return Result {
-            value: difference(a, m, bytes::bit(f.c) as u16),
+            value: difference(a, m, flags::bit(f.c) as u16),
             flags: flags,
         };
     }

@@ -5,6 +5,7 @@ pub mod Bus
 pub mod Bytes
 pub mod Checks
 pub mod Decode
+pub mod Flags
 pub mod General
 pub mod Internal
 pub mod Interrupts

@@ -1,8 +1,8 @@
 use native.Mathlib.Omega.{arith}
-use Rattle.bytes.proofs.Laws.{byte-most}
+use Rattle.flags.proofs.Laws.{byte-most}
 use borrow.Author.Needs.{needs}
-use Rattle.bytes.proofs.with_bit_4.Statement.{statement}
-use Rattle.bytes.proofs.with_bit_4.Tie as tie
+use Rattle.flags.proofs.with_bit_4.Statement.{statement}
+use Rattle.flags.proofs.with_bit_4.Tie as tie
 
 add-result : tie.Need-add-result
 add-result c = record { fits = omega (arith, c .byte-of .ensures, byte-most (c .before .args .f)) }
