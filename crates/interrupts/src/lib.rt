@@ -1,4 +1,4 @@
-// BRK, the interrupts and RES. Each access has its number in the step.
+// BRK and the interrupts. Each access has its number in the step.
 
 use wiring::Wiring;
 ghost use Prim.Native.Nat.{_<_};
@@ -6,11 +6,11 @@ ghost use lib.ListN.{length};
 ghost use Rattle.rules.specs.declared.Bus.{Bus};
 ghost use Rattle.rules.specs.declared.State.{State};
 ghost use Rattle.rules.specs.Cycles.{execution};
-ghost use Rattle.rules.specs.Operations.{enter, brk};
-ghost use Rattle.rules.specs.Interrupts.{interrupt, reset};
+ghost use Rattle.rules.specs.Operations.{brk};
+ghost use Rattle.rules.specs.Interrupts.{interrupt};
 ghost use Rattle.wiring.specs.Wiring.{Wired, Stands, Ready};
 ghost use Rattle.bus.specs.Goes.{Goes, Does};
-ghost use Rattle.interrupts.specs.Reads.{pushThree, twoReads, threeReads};
+ghost use Rattle.interrupts.specs.Pushes.{pushThree};
 
 // "push PC high, low, P"
 fn push_three(w: Wiring, image: &mut [u8], list: &mut [u8], pc: u16, s: u8, p: u8)
@@ -19,19 +19,6 @@ fn push_three(w: Wiring, image: &mut [u8], list: &mut [u8], pc: u16, s: u8, p: u
 {
     stack::push_pc(w, image, list, 2, pc, s);
     bus::push(w, image, list, 4, bytes::down(2, s), p);
-}
-
-// How BRK, an interrupt and a reset end: S is lower by 3, "read the vector", "set I".
-fn enter(vector: u16, state: &mut [u8], w: Wiring, image: &[u8], list: &mut [u8])
-    requires { ⌜ (vector < 65535) × Ready w (length (now state)) (length (now image)) (length (now list)) ⌝ }
-    ensures { λ r. ⌜ ((s : State) → Stands execution s (now (state .entry)) w → Does (enter vector (s .cpu)) 5 s (now (image .entry)) (now (list .entry)) 7 (now (state .exit)) (now (image .entry)) (now (list .exit))) ⌝ }
-{
-    let s = state::s_of(state);
-    let f = flags::with_i(true, state::flags_of(state));
-    let to = stack::word_at(state, w, image, list, 5, vector, vector + 1);
-    state::set_flags(state, f);
-    state::set_s(state, bytes::down(3, s));
-    state::set_pc(state, to);
 }
 
 // "BRK: PC+1, push PC+2 high, low, P with bit 4 set, FFFE, FFFF; I set." PC stands at PC+1.
@@ -43,16 +30,7 @@ pub fn brk(state: &mut [u8], w: Wiring, image: &mut [u8], list: &mut [u8])
     let s = state::s_of(state);
     let p = flags::with_bit_4(state::flags_of(state));
     push_three(w, image, list, back, s, p);
-    enter(65534, state, w, image, list);
-}
-
-// "read PC twice"
-fn two_reads(state: &[u8], w: Wiring, image: &[u8], list: &mut [u8], pc: u16)
-    requires { ⌜ Ready w (length (now state)) (length (now image)) (length (now list)) ⌝ }
-    ensures { λ r. ⌜ ((t : State) → Stands execution t (now (state .entry)) w → Goes (twoReads pc) 0 (t .bus) (now (image .entry)) (now (list .entry)) tt 2 (t .bus) (now (image .entry)) (now (list .exit))) ⌝ }
-{
-    bus::read(state, w, image, list, 0, pc);
-    bus::read(state, w, image, list, 1, pc);
+    sequence::enter(65534, state, w, image, list);
 }
 
 // "IRQ, NMI: read PC twice, push PC high, low, P (bit 4 clear), read the vector (FFFE, FFFA), set I."
@@ -63,31 +41,7 @@ pub fn interrupt(vector: u16, state: &mut [u8], w: Wiring, image: &mut [u8], lis
     let pc = state::pc_of(state);
     let s = state::s_of(state);
     let p = flags::byte_of(state::flags_of(state));
-    two_reads(state, w, image, list, pc);
+    sequence::two_reads(state, w, image, list, pc);
     push_three(w, image, list, pc, s, p);
-    enter(vector, state, w, image, list);
-}
-
-// "three stack reads in place of pushes"
-fn three_reads(state: &[u8], w: Wiring, image: &[u8], list: &mut [u8], s: u8)
-    requires { ⌜ Ready w (length (now state)) (length (now image)) (length (now list)) ⌝ }
-    ensures { λ r. ⌜ ((t : State) → Stands execution t (now (state .entry)) w → Goes (threeReads s) 2 (t .bus) (now (image .entry)) (now (list .entry)) tt 5 (t .bus) (now (image .entry)) (now (list .exit))) ⌝ }
-{
-    let one = bytes::stack(bytes::down(1, s));
-    let two = bytes::stack(bytes::down(2, s));
-    bus::read(state, w, image, list, 2, bytes::stack(s));
-    bus::read(state, w, image, list, 3, one);
-    bus::read(state, w, image, list, 4, two);
-}
-
-// "RES: the same with three stack reads in place of pushes, S lowered by 3, vector FFFC, I set, D kept"
-pub fn reset(state: &mut [u8], w: Wiring, image: &[u8], list: &mut [u8])
-    requires { ⌜ Ready w (length (now state)) (length (now image)) (length (now list)) ⌝ }
-    ensures { λ r. ⌜ ((s : State) → Stands execution s (now (state .entry)) w → Does (reset (s .cpu)) 0 s (now (image .entry)) (now (list .entry)) 7 (now (state .exit)) (now (image .entry)) (now (list .exit))) ⌝ }
-{
-    let pc = state::pc_of(state);
-    let s = state::s_of(state);
-    two_reads(state, w, image, list, pc);
-    three_reads(state, w, image, list, s);
-    enter(65532, state, w, image, list);
+    sequence::enter(vector, state, w, image, list);
 }

@@ -111,7 +111,7 @@ fn reset(state: &mut [u8], image: &[u8], list: &mut [u8], pins: u8, banks: u8)
 {
     reset_registers(state);
     let w = wiring::wire(state, pins, banks);
-    interrupts::reset(state, w, image, list);
+    reset::reset(state, w, image, list);
 }
 
 // The instruction at PC, whose opcode was looked at.

@@ -13,6 +13,8 @@ pub mod Listing
 pub mod Operations
 pub mod Processor
 pub mod Relations
+pub mod Reset
+pub mod Sequence
 pub mod Stack
 pub mod State
 pub mod Step

@@ -2,8 +2,8 @@ use Rattle.bus.proofs.Laws.{do-does}
 use Rattle.rules.specs.Cycles.{_>>=_}
 use Rattle.rules.specs.Interrupts.{reset}
 use borrow.Author.Needs.{needs}
-use Rattle.interrupts.proofs.reset.Statement.{statement}
-use Rattle.interrupts.proofs.reset.Tie as tie
+use Rattle.reset.proofs.reset.Statement.{statement}
+use Rattle.reset.proofs.reset.Tie as tie
 
 returns : tie.Need-returns
 unfolding reset _>>=_

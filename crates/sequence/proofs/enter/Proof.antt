@@ -5,8 +5,8 @@ use Rattle.rules.specs.Cycles.{done, _>>=_}
 use Rattle.rules.specs.Flags.{withI}
 use Rattle.rules.specs.Operations.{enter, down, withPc, withP, withS}
 use borrow.Author.Needs.{needs}
-use Rattle.interrupts.proofs.enter.Statement.{statement}
-use Rattle.interrupts.proofs.enter.Tie as tie
+use Rattle.sequence.proofs.enter.Statement.{statement}
+use Rattle.sequence.proofs.enter.Tie as tie
 
 set-pc-requires : tie.Need-set-pc-requires
 set-pc-requires c κs = c .before .before .before .set-s .kept .0 ∙ (c .before .before .before .before .before .before .before .before .set-flags .kept .0 ∙ c .before .before .before .before .before .before .before .before .before .before .before .before .before .before .before .before .before .before .before .before .before .before .before .pre .1 .whole)

@@ -1,0 +1,13 @@
+-- What a reset reads where an interrupt pushes.
+use Prim.Native.Nat.{ℕ}
+use Rattle.rules.specs.Operations.{stack, down}
+use Rattle.rules.specs.Cycles.{Cycles, done, _>>=_, _>>_}
+use Rattle.rules.specs.Addressing.{get}
+
+-- "three stack reads in place of pushes"
+abbrev pub threeReads : ℕ → Cycles (Unit {0})
+threeReads s = do
+  get (stack s)
+  get (stack (down 1 s))
+  get (stack (down 2 s))
+  done tt

@@ -1,0 +1,33 @@
+// What BRK, the interrupts and RES have in common. Each access has its number in the step.
+
+use wiring::Wiring;
+ghost use Prim.Native.Nat.{_<_};
+ghost use lib.ListN.{length};
+ghost use Rattle.rules.specs.declared.State.{State};
+ghost use Rattle.rules.specs.Cycles.{execution};
+ghost use Rattle.rules.specs.Operations.{enter};
+ghost use Rattle.wiring.specs.Wiring.{Stands, Ready};
+ghost use Rattle.bus.specs.Goes.{Goes, Does};
+ghost use Rattle.sequence.specs.Reads.{twoReads};
+
+// "read PC twice"
+pub fn two_reads(state: &[u8], w: Wiring, image: &[u8], list: &mut [u8], pc: u16)
+    requires { ⌜ Ready w (length (now state)) (length (now image)) (length (now list)) ⌝ }
+    ensures { λ r. ⌜ ((t : State) → Stands execution t (now (state .entry)) w → Goes (twoReads pc) 0 (t .bus) (now (image .entry)) (now (list .entry)) tt 2 (t .bus) (now (image .entry)) (now (list .exit))) ⌝ }
+{
+    bus::read(state, w, image, list, 0, pc);
+    bus::read(state, w, image, list, 1, pc);
+}
+
+// How BRK, an interrupt and a reset end: S is lower by 3, "read the vector", "set I".
+pub fn enter(vector: u16, state: &mut [u8], w: Wiring, image: &[u8], list: &mut [u8])
+    requires { ⌜ (vector < 65535) × Ready w (length (now state)) (length (now image)) (length (now list)) ⌝ }
+    ensures { λ r. ⌜ ((s : State) → Stands execution s (now (state .entry)) w → Does (enter vector (s .cpu)) 5 s (now (image .entry)) (now (list .entry)) 7 (now (state .exit)) (now (image .entry)) (now (list .exit))) ⌝ }
+{
+    let s = state::s_of(state);
+    let f = flags::with_i(true, state::flags_of(state));
+    let to = stack::word_at(state, w, image, list, 5, vector, vector + 1);
+    state::set_flags(state, f);
+    state::set_s(state, bytes::down(3, s));
+    state::set_pc(state, to);
+}

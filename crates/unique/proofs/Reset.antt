@@ -1,0 +1,12 @@
+-- The same of RES.
+use mathlib.Core.Path.{ap}
+use denote.Ref.{now}
+use Rattle.rules.specs.declared.State.{State}
+use Rattle.rules.specs.Cycles.{execution}
+use Rattle.wiring.specs.Wiring.{Stands}
+use Rattle.reset.proofs as its
+use Rattle.unique.proofs.General.{UniqueWhere}
+use Rattle.unique.proofs.Relations.{does, pulled}
+
+pub reset : (s : State) → UniqueWhere its.reset.Kinds.ps its.reset.Kinds.r (λ κs a. Stands execution s (now (a .0)) (a .1 .0)) its.reset.Reads.Post
+reset s κs a h x y p q = ap pulled (does (p s h) (q s h))
