@@ -10,7 +10,7 @@
  *         halt(wankitare_refusal(word));
  *     log_accesses(accesses, wankitare_accesses(word));
  *
- * For C11 and C++11. The library is the archive that `rt staticlib board` makes.
+ * For C11 and C++11. The library is the archive that `second/archive OUT.a` makes, for x86-64 and Arm.
  */
 #ifndef WANKITARE_H
 #define WANKITARE_H
