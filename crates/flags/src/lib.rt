@@ -1,6 +1,6 @@
 // The flags, and the byte P that holds them.
 
-ghost use Prim.Native.Nat.{_+_, _≤_};
+ghost use Prim.Native.Nat.{_≤_};
 ghost use mathlib.Core.Path.{_≡_};
 ghost use Rattle.rules.specs.Basics.{bit, bitOf};
 ghost use Rattle.rules.specs.Flags.{flagsOf, byteOf, byteOf4, nz, withC, withI};

@@ -1,7 +1,7 @@
 -- What BRK and an interrupt push.
 use Prim.Native.Nat.{ℕ}
 use Rattle.rules.specs.Operations.{stack, down, pushPc}
-use Rattle.rules.specs.Cycles.{Cycles, _>>=_, _>>_}
+use Rattle.rules.specs.Cycles.{Cycles, _>>_}
 use Rattle.rules.specs.Addressing.{put}
 
 -- "push PC high, low, P"
