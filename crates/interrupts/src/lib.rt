@@ -27,7 +27,7 @@ pub fn brk(state: &mut [u8], w: Wiring, image: &mut [u8], list: &mut [u8])
     ensures { λ r. ⌜ ((s : State) → Stands execution s (now (state .entry)) w → Does (brk (s .cpu)) 2 s (now (image .entry)) (now (list .entry)) 7 (now (state .exit)) (now (image .exit)) (now (list .exit))) ⌝ }
 {
     let back = std::num::wrapping_add_u16(state::pc_of(state), 1);
-    let s = state::s_of(state);
+    let s = state[state::S];
     let p = flags::with_bit_4(state::flags_of(state));
     push_three(w, image, list, back, s, p);
     sequence::enter(65534, state, w, image, list);
@@ -39,7 +39,7 @@ pub fn interrupt(vector: u16, state: &mut [u8], w: Wiring, image: &mut [u8], lis
     ensures { λ r. ⌜ ((s : State) → Stands execution s (now (state .entry)) w → Does (interrupt vector (s .cpu)) 0 s (now (image .entry)) (now (list .entry)) 7 (now (state .exit)) (now (image .exit)) (now (list .exit))) ⌝ }
 {
     let pc = state::pc_of(state);
-    let s = state::s_of(state);
+    let s = state[state::S];
     let p = flags::byte_of(state::flags_of(state));
     sequence::two_reads(state, w, image, list, pc);
     push_three(w, image, list, pc, s, p);

@@ -188,7 +188,7 @@ fn push(v: u8, state: &mut [u8], w: Wiring, image: &mut [u8], list: &mut [u8])
     requires { ⌜ Ready w (length (now state)) (length (now image)) (length (now list)) ⌝ }
     ensures { λ r. ⌜ ((s : State) → Stands execution s (now (state .entry)) w → Does (push v (s .cpu)) 2 s (now (image .entry)) (now (list .entry)) 3 (now (state .exit)) (now (image .exit)) (now (list .exit))) ⌝ }
 {
-    let s = state::s_of(state);
+    let s = state[state::S];
     bus::push(w, image, list, 2, s, v);
     state::set_s(state, bytes::down(1, s));
 }
@@ -232,7 +232,7 @@ fn plp(state: &mut [u8], w: Wiring, image: &[u8], list: &mut [u8])
     requires { ⌜ Ready w (length (now state)) (length (now image)) (length (now list)) ⌝ }
     ensures { λ r. ⌜ ((s : State) → Stands execution s (now (state .entry)) w → Does (perform Plp (s .cpu)) 2 s (now (image .entry)) (now (list .entry)) 4 (now (state .exit)) (now (image .entry)) (now (list .exit))) ⌝ }
 {
-    let s = state::s_of(state);
+    let s = state[state::S];
     let p = pulled(state, w, image, list, s);
     state::set_s(state, up(1, s));
     state::set_flags(state, flags::flags_of(p));
@@ -242,7 +242,7 @@ fn pla(state: &mut [u8], w: Wiring, image: &[u8], list: &mut [u8])
     requires { ⌜ Ready w (length (now state)) (length (now image)) (length (now list)) ⌝ }
     ensures { λ r. ⌜ ((s : State) → Stands execution s (now (state .entry)) w → Does (perform Pla (s .cpu)) 2 s (now (image .entry)) (now (list .entry)) 4 (now (state .exit)) (now (image .entry)) (now (list .exit))) ⌝ }
 {
-    let s = state::s_of(state);
+    let s = state[state::S];
     let v = pulled(state, w, image, list, s);
     state::set_s(state, up(1, s));
     state::to(state, state::A, v);
@@ -262,7 +262,7 @@ fn jsr(low: u8, state: &mut [u8], w: Wiring, image: &mut [u8], list: &mut [u8])
     requires { ⌜ Ready w (length (now state)) (length (now image)) (length (now list)) ⌝ }
     ensures { λ r. ⌜ ((s : State) → Stands execution s (now (state .entry)) w → Does (jsr low (s .cpu)) 2 s (now (image .entry)) (now (list .entry)) 6 (now (state .exit)) (now (image .exit)) (now (list .exit))) ⌝ }
 {
-    let s = state::s_of(state);
+    let s = state[state::S];
     let pc = state::pc_of(state);
     bus::read(state, w, image, list, 2, bytes::stack(s));
     stack::push_pc(w, image, list, 3, pc, s);
@@ -285,7 +285,7 @@ fn rts(state: &mut [u8], w: Wiring, image: &[u8], list: &mut [u8])
     requires { ⌜ Ready w (length (now state)) (length (now image)) (length (now list)) ⌝ }
     ensures { λ r. ⌜ ((s : State) → Stands execution s (now (state .entry)) w → Does (rts (s .cpu)) 2 s (now (image .entry)) (now (list .entry)) 6 (now (state .exit)) (now (image .entry)) (now (list .exit))) ⌝ }
 {
-    let s = state::s_of(state);
+    let s = state[state::S];
     bus::read(state, w, image, list, 2, bytes::stack(s));
     let a = word_above(state, w, image, list, 3, s);
     bus::read(state, w, image, list, 5, a);
@@ -297,7 +297,7 @@ fn rti(state: &mut [u8], w: Wiring, image: &[u8], list: &mut [u8])
     requires { ⌜ Ready w (length (now state)) (length (now image)) (length (now list)) ⌝ }
     ensures { λ r. ⌜ ((s : State) → Stands execution s (now (state .entry)) w → Does (rti (s .cpu)) 2 s (now (image .entry)) (now (list .entry)) 6 (now (state .exit)) (now (image .entry)) (now (list .exit))) ⌝ }
 {
-    let s = state::s_of(state);
+    let s = state[state::S];
     let two = bytes::stack(up(2, s));
     let three = bytes::stack(up(3, s));
     let p = pulled(state, w, image, list, s);

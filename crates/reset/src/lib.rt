@@ -27,7 +27,7 @@ pub fn reset(state: &mut [u8], w: Wiring, image: &[u8], list: &mut [u8])
     ensures { λ r. ⌜ ((s : State) → Stands execution s (now (state .entry)) w → Does (reset (s .cpu)) 0 s (now (image .entry)) (now (list .entry)) 7 (now (state .exit)) (now (image .entry)) (now (list .exit))) ⌝ }
 {
     let pc = state::pc_of(state);
-    let s = state::s_of(state);
+    let s = state[state::S];
     sequence::two_reads(state, w, image, list, pc);
     three_reads(state, w, image, list, s);
     sequence::enter(65532, state, w, image, list);

@@ -24,7 +24,7 @@ pub fn enter(vector: u16, state: &mut [u8], w: Wiring, image: &[u8], list: &mut 
     requires { ⌜ (vector < 65535) × Ready w (length (now state)) (length (now image)) (length (now list)) ⌝ }
     ensures { λ r. ⌜ ((s : State) → Stands execution s (now (state .entry)) w → Does (enter vector (s .cpu)) 5 s (now (image .entry)) (now (list .entry)) 7 (now (state .exit)) (now (image .entry)) (now (list .exit))) ⌝ }
 {
-    let s = state::s_of(state);
+    let s = state[state::S];
     let f = flags::with_i(true, state::flags_of(state));
     let to = stack::word_at(state, w, image, list, 5, vector, vector + 1);
     state::set_flags(state, f);

@@ -17,3 +17,7 @@ x-of s e = rw e
 pub y-of : (s : State) {r : List ℕ} → r ≡ recordOf s → getD r 3 0 ≡ s .cpu .y
 unfolding recordOf
 y-of s e = rw e
+
+pub s-of : (s : State) {r : List ℕ} → r ≡ recordOf s → getD r 4 0 ≡ s .cpu .s
+unfolding recordOf
+s-of s e = rw e

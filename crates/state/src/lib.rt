@@ -28,13 +28,6 @@ pub fn pc_of(state: &[u8]) -> u16
     bytes::join(state[6], state[7])
 }
 
-pub fn s_of(state: &[u8]) -> u8
-    requires { ⌜ length (now state) ≡ 16 ⌝ }
-    ensures { λ r. ⌜ ((s : State) → now (state .entry) ≡ recordOf s → r ≡ s .cpu .s) ⌝ }
-{
-    state[S]
-}
-
 pub fn set_pc(state: &mut [u8], pc: u16)
     requires { ⌜ length (now state) ≡ 16 ⌝ }
     ensures { λ r. ⌜ Makes (withPc pc) (now (state .entry)) (now (state .exit)) ⌝ }

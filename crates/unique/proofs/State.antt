@@ -9,9 +9,6 @@ use Rattle.unique.proofs.General.{UniqueWhere, answer, lent}
 pub pc-of : (s : State) → UniqueWhere its.pc_of.Kinds.ps its.pc_of.Kinds.r (λ κs a. now (a .0) ≡ recordOf s) its.pc_of.Reads.Post
 pc-of s κs a h x y p q = answer refl (p s h) (q s h)
 
-pub s-of : (s : State) → UniqueWhere its.s_of.Kinds.ps its.s_of.Kinds.r (λ κs a. now (a .0) ≡ recordOf s) its.s_of.Reads.Post
-s-of s κs a h x y p q = answer refl (p s h) (q s h)
-
 pub flags-of : (s : State) → UniqueWhere its.flags_of.Kinds.ps its.flags_of.Kinds.r (λ κs a. now (a .0) ≡ recordOf s) its.flags_of.Reads.Post
 flags-of s κs a h x y p q = answer refl (p s h) (q s h)
 

@@ -2,6 +2,7 @@ use Rattle.bus.proofs.Laws.{does, ended, then-read, then-do}
 use Rattle.rules.specs.Cycles.{execution, _>>=_}
 use Rattle.rules.specs.Operations.{jsr}
 use borrow.Author.Needs.{needs}
+use Rattle.state.proofs.Registers.{s-of}
 use Rattle.processor.proofs.jsr.Statement.{statement}
 use Rattle.processor.proofs.jsr.Tie as tie
 
@@ -9,7 +10,7 @@ returns : tie.Need-returns
 unfolding jsr _>>=_
 returns c = λ s h.
     let pc = c .before .before .before .before .before .before .before .before .before .before .before .before .before .before .before .before .before .before .before .before .before .before .before .before .before .before .pc-of .ensures s (h .bytes) in
-    let sp = c .before .before .before .before .before .before .before .before .before .before .before .before .before .before .before .before .before .before .before .before .before .before .before .before .before .before .before .before .s-of .ensures s (h .bytes) in
+    let sp = s-of s (h .bytes) in
     does s (rw (c .before .before .before .join .ensures, c .before .before .before .before .down .ensures, sp) at (c .before .before .set-s-pc .ensures s (h .bytes)))
     (then-read _ (rw (c .before .before .before .before .before .before .before .before .before .before .before .before .before .before .before .before .before .before .before .before .before .before .stack .ensures, sp) at (c .before .before .before .before .before .before .before .before .before .before .before .before .before .before .before .before .before .before .before .before .before .read .ensures s execution h))
     (then-do _ (rw (pc, sp) at (c .before .before .before .before .before .before .before .before .before .before .before .before .before .before .before .before .push-pc .ensures (s .bus) (h .wired)))
@@ -19,7 +20,7 @@ pub jsr-spec : {M : Type 1} → statement M
 jsr-spec =
     tie.close
     (tie.spec
-    (λ c κs. search needs)
+    (λ c. search needs)
     (λ c κs. search needs)
     (λ c κs. search needs)
     (λ c κs. search needs)

@@ -5,13 +5,14 @@ use Rattle.rules.specs.Operations.{perform, pull, toA, withS}
 use Rattle.bus.specs.Goes.{moved}
 use Rattle.rules.specs.Record.{recordOf}
 use borrow.Author.Needs.{needs}
+use Rattle.state.proofs.Registers.{s-of}
 use Rattle.processor.proofs.pla.Statement.{statement}
 use Rattle.processor.proofs.pla.Tie as tie
 
 returns : tie.Need-returns
 unfolding perform pull _>>=_ recordOf
 returns c = λ s h.
-    let sp = c .before .before .before .before .before .before .before .before .before .before .before .before .before .before .s-of .ensures s (h .bytes) in
+    let sp = s-of s (h .bytes) in
     does s {c = toA (c .before .before .before .before .before .before .before .before .before .before .before .pulled .result) (withS (sum8 (s .cpu .s) 1) (s .cpu))}
     (rw (c .before .before .before .before .before .before .before .up .ensures, sp) at (c .before .before .to .ensures (moved (withS _ (s .cpu)) (s .bus) s) (c .before .before .before .before .before .before .set-s .ensures s (h .bytes))))
     (then-call (λ v. done (toA v (withS (sum8 (s .cpu .s) 1) (s .cpu)))) (rw sp at (c .before .before .before .before .before .before .before .before .before .before .before .pulled .ensures s h)) ended)
@@ -20,7 +21,7 @@ pub pla-spec : {M : Type 1} → statement M
 pla-spec =
     tie.close
     (tie.spec
-    (λ c κs. search needs)
+    (λ c. search needs)
     (λ c κs. search needs)
     (λ c κs. search needs)
     (λ c κs. search needs)

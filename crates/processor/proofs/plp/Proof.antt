@@ -5,13 +5,14 @@ use Rattle.rules.specs.Flags.{flagsOf}
 use Rattle.rules.specs.Operations.{perform, pull, withP, withS}
 use Rattle.bus.specs.Goes.{moved}
 use borrow.Author.Needs.{needs}
+use Rattle.state.proofs.Registers.{s-of}
 use Rattle.processor.proofs.plp.Statement.{statement}
 use Rattle.processor.proofs.plp.Tie as tie
 
 returns : tie.Need-returns
 unfolding perform pull _>>=_
 returns c = λ s h.
-    let sp = c .before .before .before .before .before .before .before .before .before .before .before .before .before .before .before .s-of .ensures s (h .bytes) in
+    let sp = s-of s (h .bytes) in
     does s (rw (c .before .before .before .flags-of .ensures, c .before .before .before .before .before .before .before .before .up .ensures, sp) at (c .before .before .set-flags .ensures (moved (withS _ (s .cpu)) (s .bus) s) (c .before .before .before .before .before .before .before .set-s .ensures s (h .bytes))))
     (then-call (λ p. done (withP (flagsOf p) (withS (sum8 (s .cpu .s) 1) (s .cpu)))) (rw sp at (c .before .before .before .before .before .before .before .before .before .before .before .before .pulled .ensures s h)) ended)
 
@@ -19,7 +20,7 @@ pub plp-spec : {M : Type 1} → statement M
 plp-spec =
     tie.close
     (tie.spec
-    (λ c κs. search needs)
+    (λ c. search needs)
     (λ c κs. search needs)
     (λ c κs. search needs)
     (λ c κs. search needs)

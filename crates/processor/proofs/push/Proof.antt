@@ -2,13 +2,14 @@ use Rattle.bus.proofs.Laws.{does, ended, then-write}
 use Rattle.rules.specs.Cycles.{execution, _>>=_}
 use Rattle.rules.specs.Operations.{push}
 use borrow.Author.Needs.{needs}
+use Rattle.state.proofs.Registers.{s-of}
 use Rattle.processor.proofs.push.Statement.{statement}
 use Rattle.processor.proofs.push.Tie as tie
 
 returns : tie.Need-returns
 unfolding push _>>=_
 returns c = λ s h.
-    let sp = c .before .before .before .before .before .before .before .before .before .before .before .before .s-of .ensures s (h .bytes) in
+    let sp = s-of s (h .bytes) in
     does s (rw (c .before .before .before .down .ensures, sp) at (c .before .before .set-s .ensures s (h .bytes)))
     (then-write _ (rw sp at (c .before .before .before .before .before .before .before .before .before .push .ensures (s .bus) execution (h .wired))) ended)
 
@@ -16,7 +17,7 @@ pub push-spec : {M : Type 1} → statement M
 push-spec =
     tie.close
     (tie.spec
-    (λ c κs. search needs)
+    (λ c. search needs)
     (λ c κs. search needs)
     (λ c κs. search needs)
     (λ c κs. search needs)

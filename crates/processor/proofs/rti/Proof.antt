@@ -7,16 +7,17 @@ use Rattle.rules.specs.Basics.{sum8}
 use Rattle.rules.specs.Flags.{flagsOf}
 use Rattle.rules.specs.Operations.{rti, withPc, withP, withS}
 use borrow.Author.Needs.{needs}
+use Rattle.state.proofs.Registers.{s-of}
 use Rattle.processor.proofs.rti.Statement.{statement}
 use Rattle.processor.proofs.rti.Tie as tie
 
 set-s-pc-requires : tie.Need-set-s-pc-requires
-set-s-pc-requires c κs = c .before .before .before .before .set-flags .kept .0 ∙ c .before .before .before .before .before .before .before .before .before .before .before .before .before .before .before .before .before .before .before .before .before .before .before .before .before .before .pre .whole
+set-s-pc-requires c κs = c .before .before .before .before .set-flags .kept .0 ∙ c .before .before .before .before .before .before .before .before .before .before .before .before .before .before .before .before .before .before .before .before .before .before .before .before .before .pre .whole
 
 returns : tie.Need-returns
 unfolding rti _>>=_
 returns c = λ s h.
-    let sp = c .before .before .before .before .before .before .before .before .before .before .before .before .before .before .before .before .before .before .before .before .before .before .before .before .s-of .ensures s (h .bytes) in
+    let sp = s-of s (h .bytes) in
     let flagged = c .before .before .before .before .before .before .before .set-flags .ensures s (h .bytes) in
     does s (rw (c .before .before .before .up3 .ensures, c .before .before .before .before .before .before .before .before .flags-of .ensures, sp) at (c .before .before .set-s-pc .ensures _ flagged))
     (then-call (λ p. wordAt (stack (sum8 (s .cpu .s) 2)) (stack (sum8 (s .cpu .s) 3)) >>= λ a. done (withPc a (withP (flagsOf p) (withS (sum8 (s .cpu .s) 3) (s .cpu)))))
@@ -28,7 +29,7 @@ pub rti-spec : {M : Type 1} → statement M
 rti-spec =
     tie.close
     (tie.spec
-    (λ c κs. search needs)
+    (λ c. search needs)
     (λ c κs. search needs)
     (λ c κs. search needs)
     (λ c κs. search needs)

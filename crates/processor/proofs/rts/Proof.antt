@@ -5,13 +5,14 @@ use Rattle.bus.proofs.Laws.{does, ended, then-read, then-call}
 use Rattle.rules.specs.Cycles.{execution, _>>=_}
 use Rattle.rules.specs.Operations.{rts}
 use borrow.Author.Needs.{needs}
+use Rattle.state.proofs.Registers.{s-of}
 use Rattle.processor.proofs.rts.Statement.{statement}
 use Rattle.processor.proofs.rts.Tie as tie
 
 returns : tie.Need-returns
 unfolding rts _>>=_
 returns c = λ s h.
-    let sp = c .before .before .before .before .before .before .before .before .before .before .before .before .before .before .before .before .before .before .before .before .before .before .s-of .ensures s (h .bytes) in
+    let sp = s-of s (h .bytes) in
     does s (rw (c .before .before .before .wrapping-add-u16 .ensures, c .before .before .before .before .up .ensures, sp) at (c .before .before .set-s-pc .ensures s (h .bytes)))
     (then-read _ (rw (c .before .before .before .before .before .before .before .before .before .before .before .before .before .before .before .before .before .before .before .stack .ensures, sp) at (c .before .before .before .before .before .before .before .before .before .before .before .before .before .before .before .before .before .before .read .ensures s execution h))
     (then-call (λ a. read execution a (λ v. done (withPc (sum16 a 1) (withS (sum8 (s .cpu .s) 2) (s .cpu))))) (rw sp at (c .before .before .before .before .before .before .before .before .before .before .before .before .before .word-above .ensures s h))
@@ -21,7 +22,7 @@ pub rts-spec : {M : Type 1} → statement M
 rts-spec =
     tie.close
     (tie.spec
-    (λ c κs. search needs)
+    (λ c. search needs)
     (λ c κs. search needs)
     (λ c κs. search needs)
     (λ c κs. search needs)

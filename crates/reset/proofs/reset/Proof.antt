@@ -2,14 +2,15 @@ use Rattle.bus.proofs.Laws.{do-does}
 use Rattle.rules.specs.Cycles.{_>>=_}
 use Rattle.rules.specs.Interrupts.{reset}
 use borrow.Author.Needs.{needs}
+use Rattle.state.proofs.Registers.{s-of}
 use Rattle.reset.proofs.reset.Statement.{statement}
 use Rattle.reset.proofs.reset.Tie as tie
 
 returns : tie.Need-returns
 unfolding reset _>>=_
 returns c = λ s h.
-    let pc = c .before .before .before .before .before .before .before .before .before .before .before .before .before .before .before .before .before .before .before .pc-of .ensures s (h .bytes) in
-    let sp = c .before .before .before .before .before .before .before .before .before .before .before .before .before .before .before .before .before .s-of .ensures s (h .bytes) in
+    let pc = c .before .before .before .before .before .before .before .before .before .before .before .before .before .before .before .before .before .before .pc-of .ensures s (h .bytes) in
+    let sp = s-of s (h .bytes) in
     do-does _ (rw pc at (c .before .before .before .before .before .before .before .before .before .before .before .before .before .before .two-reads .ensures s h))
     (do-does _ (rw sp at (c .before .before .before .before .before .before .before .before .before .three-reads .ensures s h)) (c .before .before .before .before .enter .ensures s h))
 
@@ -18,7 +19,7 @@ reset-spec =
     tie.close
     (tie.spec
     (λ c κs. search needs)
-    (λ c κs. search needs)
+    (λ c. search needs)
     (λ c κs. search needs)
     (λ c κs. search needs)
     (λ c κs. search needs)
