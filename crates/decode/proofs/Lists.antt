@@ -1,9 +1,9 @@
--- A list's last choice, and a list that another one is made of.
-use Prim.Native.Nat.{ℕ, zero, suc, _<_, _≤_}
+-- A list's last choice.
+use Prim.Native.Nat.{ℕ, zero, suc, _≤_}
 use native.Mathlib.Nat.{not-suc-le-zero, le-of-suc-le-suc}
 use native.Mathlib.Omega.{arith}
 use mathlib.Core.Path.{_≡_, refl}
-use mathlib.Core.List.{List, [], _∷_, map}
+use mathlib.Core.List.{List, [], _∷_}
 use lib.ListN.{length, getD}
 
 -- n is none of 0, 1, .., k - 1: what the last arm of a match on these numbers knows
@@ -22,8 +22,3 @@ beyond (x ∷ l) (suc n) d h = beyond l n d (le-of-suc-le-suc h)
 
 pub last : {A : Type 0} (l : List A) (n : ℕ) (d : A) → Left n (length l) → d ≡ getD l n d
 last l n d h = beyond l n d (above n (length l) h)
-
-pub at-map : {A B : Type 0} (f : A → B) (l : List A) (n : ℕ) (x : B) (d : A) → n < length l → getD (map f l) n x ≡ f (getD l n d)
-at-map f [] n x d h = absurd (not-suc-le-zero h)
-at-map f (y ∷ l) zero x d h = refl
-at-map f (y ∷ l) (suc n) x d h = at-map f l n x d (le-of-suc-le-suc h)

@@ -12,8 +12,8 @@ use Rattle.rules.specs.Cycles.{execution, read, done, _>>=_}
 use Rattle.rules.specs.Opcodes.{Entry, undefined, alone, byte, word, late, decode, isDefined, ofInstruction}
 use Rattle.rules.specs.Table.{table}
 use Rattle.rules.specs.Operations.{withPc, perform, next, operate}
-use Rattle.decode.specs.Numbers.{numberOf, made, fetchedBy}
-use Rattle.decode.proofs.Decodes.{at-opcode, made-is}
+use Rattle.table.specs.Numbers.{numberOf, made, fetchedBy}
+use Rattle.table.proofs.Decodes.{at-opcode, made-is}
 use Rattle.bus.specs.Goes.{Goes, Does, moved}
 use Rattle.bus.proofs.Laws.{read-does}
 use Rattle.processor.specs.Begun.{begun, short}

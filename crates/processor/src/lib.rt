@@ -21,7 +21,7 @@ ghost use Rattle.rules.specs.Addressing.{bankOf};
 ghost use Rattle.rules.specs.Arithmetic.{changed};
 ghost use Rattle.rules.specs.Operations.{withP, withS, withPc, withResult, registerOf, target, taken, stack, push, jsr, rts, rti, jumpIndirect, perform, next, operate};
 ghost use Rattle.rules.specs.Opcodes.{decode, isDefined};
-ghost use Rattle.decode.specs.Numbers.{numberOf};
+ghost use Rattle.table.specs.Numbers.{numberOf};
 ghost use Rattle.rules.specs.Flags.{withI};
 ghost use Rattle.state.specs.Makes.{Makes};
 ghost use Rattle.wiring.specs.Wiring.{Stands, Ready};

@@ -14,8 +14,8 @@ use Rattle.rules.specs.declared.Bus.{Bus}
 use Rattle.rules.specs.declared.Cpu.{Cpu}
 use Rattle.rules.specs.Cycles.{Cycles, Access}
 use Rattle.rules.specs.Opcodes.{decode, isDefined}
-use Rattle.decode.specs.Numbers.{numberOf}
-use Rattle.decode.proofs.Decodes.{defined-is}
+use Rattle.table.specs.Numbers.{numberOf}
+use Rattle.table.proofs.Decodes.{defined-is}
 use Rattle.rules.specs.Interrupts.{Event, res, nmi, irq, execute, cyclesOf, interrupt}
 use Rattle.rules.specs.Bus.{is6502, is6508, is6509, images, listOf}
 use Rattle.rules.specs.Record.{stateOf, recordOf, wellFormed, partFits}

@@ -17,7 +17,7 @@ ghost use Rattle.rules.specs.Interrupts.{irqOf, Event, res, irq, execute, event
 ghost use Rattle.rules.specs.Bus.{world, images, look, resetBus};
 ghost use Rattle.rules.specs.Record.{long, recordOf};
 ghost use Rattle.rules.specs.Step.{busAt, ranOf, finished, step};
-ghost use Rattle.decode.specs.Numbers.{numberOf};
+ghost use Rattle.table.specs.Numbers.{numberOf};
 ghost use Rattle.wiring.specs.Wiring.{Sound, Stands, Ready};
 ghost use Rattle.bus.specs.Goes.{moved, Does};
 ghost use Rattle.step.specs.Parts.{vectorOf, closed, resetOf, left, advanced, Begins};
@@ -179,7 +179,7 @@ fn run_instruction(
     let w = wiring::wire(state, pins, banks);
     let pc = state::pc_of(state);
     let opcode = bus::look(state, w, image, pc);
-    let entry = decode::entry_of(opcode);
+    let entry = table::entry_of(opcode);
     if entry == 255 {
         return StepAnswer::Refused(Refusal::Undefined {
             pc: pc,

@@ -3,9 +3,6 @@ use mathlib.Core.Path.{refl}
 use Rattle.decode.proofs as its
 use Rattle.unique.proofs.General.{Unique, answer}
 
-pub entry-of : Unique its.entry_of.Kinds.ps its.entry_of.Kinds.r its.entry_of.Reads.Post
-entry-of κs a x y = answer refl
-
 pub instruction-of : Unique its.instruction_of.Kinds.ps its.instruction_of.Kinds.r its.instruction_of.Reads.Post
 instruction-of κs a x y = answer refl
 

@@ -19,4 +19,5 @@ pub mod Stack
 pub mod State
 pub mod Step
 pub mod Sums
+pub mod Table
 pub mod Wiring

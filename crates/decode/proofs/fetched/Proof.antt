@@ -1,5 +1,5 @@
 use borrow.Author.Tests.{lt-ltb, le-ltb, eq-eqb, ne-eqb}
-use Rattle.decode.specs.Numbers.{fetched}
+use Rattle.table.specs.Numbers.{fetched}
 use borrow.Author.Needs.{needs}
 use Rattle.decode.proofs.fetched.Statement.{statement}
 use Rattle.decode.proofs.fetched.Tie as tie

@@ -1,5 +1,5 @@
 use Rattle.rules.specs.declared.Internal.the-variants.{Nop}
-use Rattle.decode.specs.Numbers.{internals}
+use Rattle.table.specs.Numbers.{internals}
 use Rattle.decode.proofs.Lists.{last}
 use borrow.Author.Needs.{needs}
 use Rattle.decode.proofs.internal.Statement.{statement}

@@ -1,4 +1,4 @@
-use Rattle.decode.specs.Numbers.{isWord}
+use Rattle.table.specs.Numbers.{isWord}
 use borrow.Author.Tests.{lt-ltb, le-ltb, le-leb, lt-leb}
 use Rattle.decode.proofs.is_word.Statement.{statement}
 use Rattle.decode.proofs.is_word.Tie as tie

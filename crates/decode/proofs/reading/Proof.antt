@@ -1,5 +1,5 @@
 use Rattle.rules.specs.declared.Reading.the-variants.{Bit}
-use Rattle.decode.specs.Numbers.{readings}
+use Rattle.table.specs.Numbers.{readings}
 use Rattle.decode.proofs.Lists.{last}
 use borrow.Author.Needs.{needs}
 use Rattle.decode.proofs.reading.Statement.{statement}

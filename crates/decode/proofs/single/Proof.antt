@@ -1,5 +1,5 @@
 use Rattle.rules.specs.declared.Instruction.the-variants.{Cli}
-use Rattle.decode.specs.Numbers.{singles}
+use Rattle.table.specs.Numbers.{singles}
 use Rattle.decode.proofs.Lists.{last}
 use borrow.Author.Needs.{needs}
 use Rattle.decode.proofs.single.Statement.{statement}

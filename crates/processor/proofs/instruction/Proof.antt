@@ -2,7 +2,7 @@ use mathlib.Core.Path.{sym, _∙_}
 use native.Mathlib.Omega.{arith}
 use Rattle.rules.specs.Cycles.{execution}
 use Rattle.rules.specs.Opcodes.{decode}
-use Rattle.decode.proofs.Decodes.{made-is, fetched-is}
+use Rattle.table.proofs.Decodes.{made-is, fetched-is}
 use Rattle.processor.proofs.Operates.{short-is, begun-is, operated, again}
 use borrow.Author.Needs.{needs}
 use Rattle.processor.proofs.instruction.Statement.{statement}

@@ -10,8 +10,8 @@ use Rattle.rules.specs.declared.Instruction.the-variants.{Cli}
 use Rattle.rules.specs.Opcodes.{Entry, undefined, alone, byte, word, late, decode, isDefined, ofInstruction}
 use Rattle.rules.specs.Table.{table}
 use Rattle.rules.proofs.Table.{table-at}
-use Rattle.decode.specs.Numbers.{number, numberOf, made, isWord, fetched, fetchedBy}
-use Rattle.decode.proofs.Lists.{at-map}
+use Rattle.table.specs.Numbers.{number, numberOf, made, isWord, fetched, fetchedBy}
+use Rattle.table.proofs.Lists.{at-map}
 
 -- a list made of the table's entries has at n what is made of opcode n
 pub at-opcode : {A : Type 0} (f : Entry → A) (x : A) (n : ℕ) → n < 256 → getD (map f table) n x ≡ f (decode n)
