@@ -1,32 +1,11 @@
-// Compares, BIT, shifts and steps by one.
+// Shifts and steps by one.
 
 ghost use Prim.Native.Nat.{_+_, _-_, _<_};
 ghost use mathlib.Core.Path.{_≡_};
-ghost use Rattle.rules.specs.Arithmetic.{compare, bitTest, shifted, stepped, changed};
+ghost use Rattle.rules.specs.Arithmetic.{shifted, stepped, changed};
 use rules::Changing;
 use rules::Flags;
 use rules::Result;
-
-// "Compares set N, Z from the difference, C where no borrow."
-pub fn compare(r: u8, m: u8, f: Flags) -> Flags
-    ensures { λ result. ⌜ result ≡ compare r m f ⌝ }
-{
-    flags::nzc(std::num::wrapping_sub_u8(r, m), m <= r, f)
-}
-
-// "BIT takes N, V from memory, Z from the AND."
-pub fn bit_test(a: u8, m: u8, f: Flags) -> Flags
-    ensures { λ r. ⌜ r ≡ bitTest a m f ⌝ }
-{
-    Flags {
-        n: flags::has(m, 128),
-        v: flags::has(m, 64),
-        d: f.d,
-        i: f.i,
-        z: a & m == 0,
-        c: f.c,
-    }
-}
 
 // "Shifts set N, Z, C": C is the bit that fell out.
 fn shifted(v: u8, out: bool, f: Flags) -> Result

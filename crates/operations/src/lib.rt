@@ -1,10 +1,33 @@
 // What is done with a byte that was read.
 
+use rules::Flags;
 use rules::Reading;
 ghost use mathlib.Core.Path.{_≡_};
 ghost use lib.ListN.{length};
+ghost use Rattle.rules.specs.Arithmetic.{compare, bitTest};
 ghost use Rattle.rules.specs.Operations.{used};
 ghost use Rattle.state.specs.Makes.{Makes};
+
+// "Compares set N, Z from the difference, C where no borrow."
+fn compare(r: u8, m: u8, f: Flags) -> Flags
+    ensures { λ result. ⌜ result ≡ compare r m f ⌝ }
+{
+    flags::nzc(std::num::wrapping_sub_u8(r, m), m <= r, f)
+}
+
+// "BIT takes N, V from memory, Z from the AND."
+fn bit_test(a: u8, m: u8, f: Flags) -> Flags
+    ensures { λ r. ⌜ r ≡ bitTest a m f ⌝ }
+{
+    Flags {
+        n: flags::has(m, 128),
+        v: flags::has(m, 64),
+        d: f.d,
+        i: f.i,
+        z: a & m == 0,
+        c: f.c,
+    }
+}
 
 pub fn used(o: Reading, v: u8, state: &mut [u8])
     requires { ⌜ length (now state) ≡ 16 ⌝ }
@@ -20,12 +43,12 @@ pub fn used(o: Reading, v: u8, state: &mut [u8])
         Reading::Eor => state::to(state, state::A, a ^ v),
         Reading::Adc => state::to_result(state, sums::adc(a, v, f)),
         Reading::Lda => state::to(state, state::A, v),
-        Reading::Cmp => state::set_flags(state, arithmetic::compare(a, v, f)),
+        Reading::Cmp => state::set_flags(state, compare(a, v, f)),
         Reading::Sbc => state::to_result(state, sums::sbc(a, v, f)),
         Reading::Ldx => state::to(state, state::X, v),
         Reading::Ldy => state::to(state, state::Y, v),
-        Reading::Cpx => state::set_flags(state, arithmetic::compare(x, v, f)),
-        Reading::Cpy => state::set_flags(state, arithmetic::compare(y, v, f)),
-        Reading::Bit => state::set_flags(state, arithmetic::bit_test(a, v, f)),
+        Reading::Cpx => state::set_flags(state, compare(x, v, f)),
+        Reading::Cpy => state::set_flags(state, compare(y, v, f)),
+        Reading::Bit => state::set_flags(state, bit_test(a, v, f)),
     }
 }

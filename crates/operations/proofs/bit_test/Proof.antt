@@ -1,6 +1,6 @@
 use borrow.Author.Needs.{needs}
-use Rattle.arithmetic.proofs.bit_test.Statement.{statement}
-use Rattle.arithmetic.proofs.bit_test.Tie as tie
+use Rattle.operations.proofs.bit_test.Statement.{statement}
+use Rattle.operations.proofs.bit_test.Tie as tie
 
 returns : tie.Need-returns
 returns c = rw (c .before .has .ensures, c .has2 .ensures)

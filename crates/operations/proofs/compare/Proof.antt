@@ -1,7 +1,7 @@
-use Rattle.arithmetic.proofs.Laws.{wrapped}
+use Rattle.operations.proofs.Laws.{wrapped}
 use borrow.Author.Needs.{needs}
-use Rattle.arithmetic.proofs.compare.Statement.{statement}
-use Rattle.arithmetic.proofs.compare.Tie as tie
+use Rattle.operations.proofs.compare.Statement.{statement}
+use Rattle.operations.proofs.compare.Tie as tie
 
 returns : tie.Need-returns
 returns c = rw (c .nzc .ensures, wrapped _ _ _ (c .before .before .fits .m .fits) (c .before .wrapping-sub-u8 .ok) (c .before .wrapping-sub-u8 .ensures))
