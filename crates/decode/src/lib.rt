@@ -167,7 +167,7 @@ fn is_word(entry: u8) -> bool
     entry < table::JSR
 }
 
-// How many bytes are fetched before the instruction's own accesses: the opcode and the operand, of a table::JSR its low byte only.
+// How many bytes are fetched before the instruction's own accesses: the opcode and the operand, of JSR its low byte only.
 pub fn fetched(entry: u8) -> u16
     ensures { λ r. ⌜ r ≡ fetched entry ⌝ }
 {
