@@ -26,16 +26,16 @@ fn low_held(state: &[u8], pins: u8, image: &[u8], a: u16) -> u8
     requires { ⌜ (length (now state) ≡ 16) × (65536 ≤ length (now image)) ⌝ }
     ensures { λ r. ⌜ ((s : State) → now (state .entry) ≡ recordOf s → pins ≡ s .bus .pins → r ≡ lowHeld (s .bus) (now (image .entry)) a) ⌝ }
 {
+    if 1 < a {
+        return image[(a % 256) as usize];
+    }
     if a == 0 {
         return state[8];
     }
-    if a == 1 {
-        if state[0] == 8 {
-            return port(state[8], state[9], pins);
-        }
-        return state[9];
+    if state[0] == 8 {
+        return port(state[8], state[9], pins);
     }
-    image[(a % 256) as usize]
+    state[9]
 }
 
 // What a read would find, unlisted.
