@@ -1,6 +1,5 @@
 // Shifts and steps by one.
 
-ghost use Prim.Native.Nat.{_+_, _-_, _<_};
 ghost use mathlib.Core.Path.{_≡_};
 ghost use Rattle.rules.specs.Arithmetic.{shifted, stepped, changed};
 use rules::Changing;

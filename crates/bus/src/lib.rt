@@ -1,7 +1,7 @@
 // The bus of the three parts: one access at a time, each listed at its cycle's place. The state is the record's sixteen bytes.
 
 use wiring::Wiring;
-ghost use Prim.Native.Nat.{_+_, _-_, _%_, _≤_, _<_};
+ghost use Prim.Native.Nat.{_+_, _-_, _≤_, _<_};
 ghost use mathlib.Core.Path.{_≡_};
 ghost use lib.ListN.{length};
 ghost use lib.Bits.{bitAnd, bitOr};

@@ -3,7 +3,7 @@
 use rules::Refusal;
 use rules::StepAnswer;
 use wiring::Wiring;
-ghost use Prim.Native.Nat.{_+_, _*_, _≤_, _<_, _/_, _%_};
+ghost use Prim.Native.Nat.{_*_, _≤_, _<_};
 ghost use mathlib.Core.Path.{_≡_};
 ghost use mathlib.Core.Bool.{true, not, _&&_};
 ghost use lib.Dec.{eqb};
