@@ -40,11 +40,17 @@ appendTests n = FileLength unless leb (wholeOf n + 16) 65536 ∷ []
 unfoldable pub appendAt : ℕ → AppendAnswer
 appendAt n = tested (appendTests n) Full (At (wholeOf n))
 
--- A file that appends made, from nothing, in which these records were completely written, the last one first. An append that is cut leaves
--- fewer than sixteen bytes t in its place: the first ones of its record, none, or, while a tail is being dropped, what is left of that.
+-- the records, the last one first, that stand whole in the first k bytes of their file
+abbrev pub standing : ℕ → List (List ℕ) → List (List ℕ)
+standing k rs = drop (length rs - k / 16) rs
+
+-- A file that appends and power dips made, from nothing, in which these records, completely written, stand, the last one first. An append that is
+-- cut leaves fewer than sixteen bytes t in its place: the first ones of its record, none, or, while a tail is being dropped, what is left of that.
+-- "a bad page's worth of lost tail included (any cut to a prefix of the file)": the file may lose its end at any time, and older records with it.
 pub data Grown : List (List ℕ) → List ℕ → Type 0 where
   empty : Grown [] []
   done : {rs : List (List ℕ)} {file : List ℕ} (r : List ℕ) (p : ℕ) → Grown rs file → appendAt (length file) ≡ At p → length r ≡ 16 →
       Grown (r ∷ rs) (take p file ++ r)
   cut : {rs : List (List ℕ)} {file : List ℕ} (t : List ℕ) (p : ℕ) → Grown rs file → appendAt (length file) ≡ At p → length t < 16 →
       Grown rs (take p file ++ t)
+  lost : {rs : List (List ℕ)} {file : List ℕ} (k : ℕ) → Grown rs file → Grown (standing k rs) (take k file)
