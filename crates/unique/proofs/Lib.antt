@@ -14,6 +14,7 @@ pub mod Operations
 pub mod Processor
 pub mod Relations
 pub mod Reset
+pub mod Restart
 pub mod Sequence
 pub mod Stack
 pub mod State

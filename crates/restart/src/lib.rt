@@ -1,0 +1,38 @@
+// The restart file: its reader, and where an append to it goes.
+
+use rules::AppendAnswer;
+use rules::Refusal;
+use rules::RestartAnswer;
+ghost use mathlib.Core.Path.{_≡_};
+ghost use Rattle.rules.specs.Restart.{restart, appendAt};
+
+// "Restart: 8, then 2 for the last whole record"
+pub fn restart(file: &[u8]) -> RestartAnswer
+    ensures { λ r. ⌜ r ≡ restart (now (file .entry)) ⌝ }
+{
+    let size = file.len();
+    if size < 16 {
+        return RestartAnswer::NotFound(Refusal::FileLength);
+    }
+    if size > 65536 {
+        return RestartAnswer::NotFound(Refusal::FileLength);
+    }
+    let at = size / 16 * 16 - 16;
+    if checks::well_formed(&file[at..at + 16]) {
+        return RestartAnswer::Found {
+            at: at,
+            tail: (size % 16) as u8,
+        };
+    }
+    RestartAnswer::NotFound(Refusal::Malformed)
+}
+
+// "An append drops a tail first and never takes the file past 65,536 bytes."
+pub fn append_at(size: u64) -> AppendAnswer
+    ensures { λ r. ⌜ r ≡ appendAt size ⌝ }
+{
+    if size < 65536 {
+        return AppendAnswer::At(size / 16 * 16);
+    }
+    AppendAnswer::Full(Refusal::FileLength)
+}
