@@ -9,13 +9,15 @@
 
 #define INLINE static inline __attribute__((always_inline))
 
-/* One source, two builds. The plain one has one step, which asks for the part wherever parts differ: what a
-   programmer would write, and what a step's time is held against. With PER_PART each part gets a step of its own,
-   in which every such question is settled: it shows what is left to gain by hand. */
+/* One source, two builds. The plain one has one step and one run, which ask for the part wherever parts differ: what a
+   programmer would write, and what time is held against. With PER_PART each part gets a step and a run of its own, in
+   which every such question is settled: it shows what is left to gain by hand. */
 #ifdef PER_PART
 #define STEP per_part_step
+#define RUN per_part_run
 #else
 #define STEP yardstick_step
+#define RUN yardstick_run
 #endif
 
 /* The record's bytes. */
@@ -583,6 +585,60 @@ INLINE unsigned refusal(int part, const uint8_t *record, size_t image_len, uint8
     return accesses_len < ROOM ? 5 : 0;
 }
 
+/* The refusals that a run must ask for at each step, but 6. They are not taken out of refusal: a step is then compiled
+   otherwise. */
+INLINE unsigned input_refusal(int part, uint8_t lines, uint8_t pins, size_t room)
+{
+    if (lines > (RES | NMI | IRQ) || (part == 8 ? (lines & NMI) != 0 : pins != 0))
+        return 4;
+    return room < ROOM ? 5 : 0;
+}
+
+/* One step; PC and the count are not yet in the record. Answers 0, or refusal 6, which moves nothing. */
+INLINE uint64_t advance(struct core *c, uint8_t lines)
+{
+    int part = c->part;
+    uint8_t *record = c->record;
+    uint8_t *accesses = c->next;
+
+    if ((lines & RES) != 0 && part != 2)
+        record[REGISTER_0] = record[REGISTER_1] = part == 9 ? 15 : 0;
+    if (part == 9)
+        select_bank(c, record[REGISTER_0]);
+
+    if (lines & RES) {
+        reset(c);
+    } else if ((lines & NMI) != 0 && record[LEVEL] == 0) {
+        interrupt(c, NMI_VECTOR);
+    } else if ((lines & IRQ) != 0 && (record[P] & I) == 0) {
+        interrupt(c, IRQ_VECTOR);
+    } else {
+        /* The fetch is listed last: a refusal moves no byte. */
+        uint8_t opcode = peek(c, c->pc);
+        uint64_t first = access_of(c, c->pc, opcode, 0);
+        c->pc++;
+        c->next += ACCESS;
+        if (!execute(c, opcode)) {
+            c->pc--;
+            c->next = accesses;
+            return 6 | (uint64_t)opcode << 8 | (uint64_t)c->pc << 16;
+        }
+        memcpy(accesses, &first, ACCESS);
+    }
+    record[LEVEL] = (lines & NMI) >> 1;
+    return 0;
+}
+
+/* Ends a step or a run of this many accesses. */
+INLINE void settle(const struct core *c, uint32_t accessed)
+{
+    uint32_t count;
+    memcpy(&count, c->record + COUNT, sizeof count);
+    count += accessed;
+    memcpy(c->record + COUNT, &count, sizeof count);
+    memcpy(c->record + PC, &c->pc, sizeof c->pc);
+}
+
 INLINE uint64_t step(int part, uint8_t *restrict record, uint8_t *restrict image, size_t image_len,
                      uint8_t lines, uint8_t pins, uint8_t *restrict accesses, size_t accesses_len)
 {
@@ -601,37 +657,62 @@ INLINE uint64_t step(int part, uint8_t *restrict record, uint8_t *restrict image
     };
     memcpy(&c.pc, record + PC, sizeof c.pc);
 
-    if ((lines & RES) != 0 && part != 2)
-        record[REGISTER_0] = record[REGISTER_1] = part == 9 ? 15 : 0;
-    if (part == 9)
-        select_bank(&c, record[REGISTER_0]);
-
-    if (lines & RES) {
-        reset(&c);
-    } else if ((lines & NMI) != 0 && record[LEVEL] == 0) {
-        interrupt(&c, NMI_VECTOR);
-    } else if ((lines & IRQ) != 0 && (record[P] & I) == 0) {
-        interrupt(&c, IRQ_VECTOR);
-    } else {
-        /* The fetch is listed last: a refusal moves no byte. */
-        uint8_t opcode = peek(&c, c.pc);
-        uint64_t first = access_of(&c, c.pc, opcode, 0);
-        c.pc++;
-        c.next += ACCESS;
-        if (!execute(&c, opcode))
-            return 6 | (uint64_t)opcode << 8 | (uint64_t)(uint16_t)(c.pc - 1) << 16;
-        memcpy(accesses, &first, ACCESS);
-    }
-
+    uint64_t undefined = advance(&c, lines);
+    if (undefined)
+        return undefined;
     uint32_t accessed = (uint32_t)((size_t)(c.next - accesses) / ACCESS);
-    uint32_t count;
-    memcpy(&count, record + COUNT, sizeof count);
-    count += accessed;
-    memcpy(record + COUNT, &count, sizeof count);
-    memcpy(record + PC, &c.pc, sizeof c.pc);
-    record[LEVEL] = (lines & NMI) >> 1;
+    settle(&c, accessed);
     return (uint64_t)accessed << 8;
 }
+
+INLINE uint64_t run(int part, uint8_t *restrict record, uint8_t *restrict image, size_t image_len,
+                    const uint8_t *restrict script, size_t script_len, uint8_t *restrict accesses,
+                    size_t accesses_len, uint64_t *restrict steps, uint64_t *restrict listed)
+{
+    /* 2 and 3, which no step can bring about. */
+    uint64_t refused = refusal(part, record, image_len, 0, 0, ROOM);
+    if (refused)
+        return refused;
+    if (script_len % 2 != 0)
+        return 7;
+
+    struct core c = {
+        .part = part,
+        .record = record,
+        .image = image,
+        .image_len = image_len,
+        .memory = image,
+        .next = accesses,
+    };
+    memcpy(&c.pc, record + PC, sizeof c.pc);
+
+    const uint8_t *at = script;
+    for (; at != script + script_len; at += 2) {
+        refused = input_refusal(part, at[0], at[1], (size_t)(accesses + accesses_len - c.next));
+        if (refused)
+            break;
+        c.pins = at[1];
+        refused = advance(&c, at[0]);
+        if (refused)
+            break;
+    }
+    *steps = (uint64_t)(at - script) / 2;
+    *listed = (uint64_t)(c.next - accesses) / ACCESS;
+    settle(&c, (uint32_t)*listed);
+    return refused;
+}
+
+#ifdef PER_PART
+#define BY_PART(call, ...) \
+    case 2: return call(2, __VA_ARGS__); \
+    case 8: return call(8, __VA_ARGS__); \
+    case 9: return call(9, __VA_ARGS__);
+#else
+#define BY_PART(call, ...) \
+    case 2: \
+    case 8: \
+    case 9: return call(record[PART], __VA_ARGS__);
+#endif
 
 uint64_t STEP(uint8_t *record, size_t record_len, uint8_t *image, size_t image_len,
               uint8_t lines, uint8_t pins, uint8_t *accesses, size_t accesses_len)
@@ -639,15 +720,20 @@ uint64_t STEP(uint8_t *record, size_t record_len, uint8_t *image, size_t image_l
     if (record_len != RECORD)
         return 1;
     switch (record[PART]) {
-#ifdef PER_PART
-    case 2: return step(2, record, image, image_len, lines, pins, accesses, accesses_len);
-    case 8: return step(8, record, image, image_len, lines, pins, accesses, accesses_len);
-    case 9: return step(9, record, image, image_len, lines, pins, accesses, accesses_len);
-#else
-    case 2:
-    case 8:
-    case 9: return step(record[PART], record, image, image_len, lines, pins, accesses, accesses_len);
-#endif
+    BY_PART(step, record, image, image_len, lines, pins, accesses, accesses_len)
+    default: return 2;
+    }
+}
+
+uint64_t RUN(uint8_t *record, size_t record_len, uint8_t *image, size_t image_len,
+             const uint8_t *script, size_t script_len, uint8_t *accesses, size_t accesses_len,
+             uint64_t *steps, uint64_t *listed)
+{
+    *steps = *listed = 0;
+    if (record_len != RECORD)
+        return 1;
+    switch (record[PART]) {
+    BY_PART(run, record, image, image_len, script, script_len, accesses, accesses_len, steps, listed)
     default: return 2;
     }
 }

@@ -1,4 +1,4 @@
-/* A C core with the board's interface, built twice from one source: what a step may cost. */
+/* A C core with the board's interface, built twice from one source: what a step and a run may cost. */
 
 #ifndef YARDSTICK_H
 #define YARDSTICK_H
@@ -6,14 +6,20 @@
 #include <stddef.h>
 #include <stdint.h>
 
-/* Both answer the same word as wankitare_step. The three buffers do not overlap. */
+/* They answer as wankitare_step and wankitare_run do. Nothing that is lent overlaps. */
 
-/* The plain build: one step for all parts. */
+/* The plain build: one step and one run for all parts. */
 uint64_t yardstick_step(uint8_t *record, size_t record_len, uint8_t *image, size_t image_len,
                         uint8_t lines, uint8_t pins, uint8_t *accesses, size_t accesses_len);
+uint64_t yardstick_run(uint8_t *record, size_t record_len, uint8_t *image, size_t image_len,
+                       const uint8_t *script, size_t script_len, uint8_t *accesses, size_t accesses_len,
+                       uint64_t *steps, uint64_t *listed);
 
-/* Built with PER_PART: a step for each part. */
+/* Built with PER_PART: a step and a run for each part. */
 uint64_t per_part_step(uint8_t *record, size_t record_len, uint8_t *image, size_t image_len,
                        uint8_t lines, uint8_t pins, uint8_t *accesses, size_t accesses_len);
+uint64_t per_part_run(uint8_t *record, size_t record_len, uint8_t *image, size_t image_len,
+                      const uint8_t *script, size_t script_len, uint8_t *accesses, size_t accesses_len,
+                      uint64_t *steps, uint64_t *listed);
 
 #endif
