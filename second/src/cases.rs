@@ -1,8 +1,10 @@
 //! Random steps: chains of well-formed states with a chosen instruction at PC, and damaged inputs.
 
 mod faults;
+mod records;
 
-pub use faults::{Fault, IMAGE_FAULTS, INPUT_FAULTS, RECORD_FAULTS};
+pub use faults::{spoil_inputs, wrong_image_length, Fault, IMAGE_FAULTS, INPUT_FAULTS};
+pub use records::{fresh_record, malform, RECORD_FAULTS};
 
 use crate::bus::BANK;
 use crate::core::step;
@@ -11,9 +13,11 @@ use crate::record::D;
 
 /// Bytes after each lent slice, which nobody may touch.
 pub const GUARD: usize = 64;
+/// A lent slice may begin at any address.
+pub const MOST_SHIFT: usize = 7;
 pub const LONGEST_RECORD: usize = 40;
 pub const LONGEST_ROOM: usize = 65_536;
-const LEAST_ROOM: usize = 56;
+pub const LEAST_ROOM: usize = 56;
 
 /// One image twice: the second program's and the tested core's.
 pub struct Pair {
@@ -154,7 +158,7 @@ impl Cases {
             _ => self.random.below(3),
         };
         self.banks = self.pool[self.pair].banks.min(16);
-        self.record = self.fresh_record(part);
+        self.record = fresh_record(&mut self.random, part);
         if self.random.one_in(8) {
             let vector = self.random.between(0xFFFA, 0xFFFF);
             let value = self.random.edge_or_byte();
@@ -162,42 +166,9 @@ impl Cases {
         }
     }
 
-    fn fresh_record(&mut self, part: u8) -> [u8; 16] {
-        let random = &mut self.random;
-        let pc = match random.below(8) {
-            0 => random.between(0xFFFD, 0xFFFF) as u16,
-            1 => u16::from(random.edge_or_byte()),
-            2 => 0x0100 | u16::from(random.edge_or_byte()),
-            _ => random.edge_or_address(),
-        };
-        let registers_mask = match part {
-            2 => 0,
-            8 => 0xFF,
-            _ => 0x0F,
-        };
-        let cycles = match random.below(4) {
-            0 => u32::MAX - random.below(8) as u32,
-            1 => (1 << (8 * random.between(1, 3))) - 1 - random.below(8) as u32,
-            _ => random.next() as u32,
-        };
-        let mut record = [0; 16];
-        record[0] = part;
-        record[1..5].fill_with(|| random.edge_or_byte());
-        record[5] = random.byte() & 0xCF | 0x20;
-        record[6..8].copy_from_slice(&pc.to_le_bytes());
-        record[8..10].fill_with(|| random.edge_or_byte() & registers_mask);
-        record[10] = if part == 8 { 0 } else { random.byte() & 1 };
-        record[11] = match part {
-            9 => 0,
-            _ => random.edge_or_byte(),
-        };
-        record[12..16].copy_from_slice(&cycles.to_le_bytes());
-        record
-    }
-
     /// One field takes a fresh value.
     fn stir(&mut self) {
-        let fresh = self.fresh_record(self.record[0]);
+        let fresh = fresh_record(&mut self.random, self.record[0]);
         let field = match self.random.below(9) {
             0 => 6..8,
             1 => 8..10,

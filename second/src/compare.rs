@@ -1,13 +1,10 @@
 //! Random steps on the second program and on a core, byte against byte.
 
 use crate::bus::{ACCESS, BANK};
-use crate::cases::{Case, Cases, GUARD, LONGEST_RECORD, LONGEST_ROOM};
+use crate::cases::{Case, Cases, GUARD, LONGEST_RECORD, LONGEST_ROOM, MOST_SHIFT};
 use crate::core::step;
 use crate::cores::Tested;
 use crate::coverage::Coverage;
-
-/// A lent slice may begin at any address.
-const MOST_SHIFT: usize = 7;
 
 /// What is lent besides the image, with room around it that must not change.
 struct Lent {
@@ -174,7 +171,7 @@ fn answers_its_case(case: &Case, word: u64) -> bool {
     }
 }
 
-fn tell_first(what: &str, start: usize, mine: &[u8], theirs: &[u8]) {
+pub fn tell_first(what: &str, start: usize, mine: &[u8], theirs: &[u8]) {
     if let Some(at) = first_difference(mine, theirs) {
         println!(
             "{} {}: second {:02X}, core {:02X}",
@@ -186,7 +183,7 @@ fn tell_first(what: &str, start: usize, mine: &[u8], theirs: &[u8]) {
     }
 }
 
-pub fn first_difference(mine: &[u8], theirs: &[u8]) -> Option<usize> {
+fn first_difference(mine: &[u8], theirs: &[u8]) -> Option<usize> {
     mine.iter().zip(theirs).position(|(a, b)| a != b)
 }
 

@@ -3,9 +3,9 @@
 use crate::bus::{Bus, ACCESS, BANK, MOST_ACCESSES};
 use crate::record::{Part, Record, C, D, I, N, V, Z};
 
-const RES: u8 = 1;
-const NMI: u8 = 2;
-const IRQ: u8 = 4;
+pub const RES: u8 = 1;
+pub const NMI: u8 = 2;
+pub const IRQ: u8 = 4;
 
 const NMI_VECTOR: u16 = 0xFFFA;
 const RES_VECTOR: u16 = 0xFFFC;
@@ -62,14 +62,14 @@ pub fn step(record: &mut [u8], image: &mut [u8], lines: u8, pins: u8, accesses: 
     (count as u64) << 8
 }
 
-fn image_fits(part: Part, length: usize) -> bool {
+pub fn image_fits(part: Part, length: usize) -> bool {
     match part {
         Part::Mos6502 | Part::Mos6508 => length == BANK,
         Part::Mos6509 => [1, 2, 4, 8, 16].iter().any(|k| length == k * BANK),
     }
 }
 
-fn inputs_fit(part: Part, lines: u8, pins: u8) -> bool {
+pub fn inputs_fit(part: Part, lines: u8, pins: u8) -> bool {
     lines <= (RES | NMI | IRQ)
         && match part {
             Part::Mos6508 => lines & NMI == 0,

@@ -1,13 +1,28 @@
 //! The cores held to account, behind the board's C interface.
 
-type Entry = unsafe extern "C" fn(*mut u8, usize, *mut u8, usize, u8, u8, *mut u8, usize) -> u64;
+use crate::run::Ran;
+
+type Step = unsafe extern "C" fn(*mut u8, usize, *mut u8, usize, u8, u8, *mut u8, usize) -> u64;
+
+type Run = unsafe extern "C" fn(
+    *mut u8,
+    usize,
+    *mut u8,
+    usize,
+    *const u8,
+    usize,
+    *mut u8,
+    usize,
+    *mut u64,
+    *mut u64,
+) -> u64;
 
 macro_rules! entries {
-    ($($(#[$attribute:meta])* $name:ident,)*) => {
+    ($($(#[$attribute:meta])* $step:ident $run:ident,)*) => {
         extern "C" {
             $(
                 $(#[$attribute])*
-                fn $name(
+                fn $step(
                     record: *mut u8,
                     record_len: usize,
                     image: *mut u8,
@@ -17,6 +32,20 @@ macro_rules! entries {
                     accesses: *mut u8,
                     accesses_len: usize,
                 ) -> u64;
+
+                $(#[$attribute])*
+                fn $run(
+                    record: *mut u8,
+                    record_len: usize,
+                    image: *mut u8,
+                    image_len: usize,
+                    script: *const u8,
+                    script_len: usize,
+                    accesses: *mut u8,
+                    accesses_len: usize,
+                    steps: *mut u64,
+                    listed: *mut u64,
+                ) -> u64;
             )*
         }
     };
@@ -24,30 +53,34 @@ macro_rules! entries {
 
 entries! {
     #[cfg(not(yardstick_only))]
-    wankitare_step,
-    yardstick_step,
-    per_part_step,
+    wankitare_step wankitare_run,
+    yardstick_step yardstick_run,
+    per_part_step per_part_run,
 }
 
 #[derive(Clone, Copy)]
 pub struct Tested {
     pub name: &'static str,
-    entry: Entry,
+    step: Step,
+    run: Run,
 }
 
 const ALL: &[Tested] = &[
     #[cfg(not(yardstick_only))]
     Tested {
         name: "archive",
-        entry: wankitare_step,
+        step: wankitare_step,
+        run: wankitare_run,
     },
     Tested {
         name: "yardstick",
-        entry: yardstick_step,
+        step: yardstick_step,
+        run: yardstick_run,
     },
     Tested {
         name: "per-part",
-        entry: per_part_step,
+        step: per_part_step,
+        run: per_part_run,
     },
 ];
 
@@ -58,6 +91,29 @@ pub fn all() -> &'static [Tested] {
 
 pub fn named(name: &str) -> Option<Tested> {
     ALL.iter().copied().find(|core| core.name == name)
+}
+
+/// What no run's answer may show: the pointer of its empty slices, and what stood in *steps and *listed.
+#[derive(Clone, Copy, Default)]
+pub struct Noise {
+    pub empty: usize,
+    pub steps: u64,
+    pub listed: u64,
+}
+
+/// "An empty slice may have any pointer": `empty` is the one it gets.
+fn at(slice: &[u8], empty: usize) -> *const u8 {
+    match slice.len() {
+        0 => empty as *const u8,
+        _ => slice.as_ptr(),
+    }
+}
+
+fn at_mut(slice: &mut [u8], empty: usize) -> *mut u8 {
+    match slice.len() {
+        0 => empty as *mut u8,
+        _ => slice.as_mut_ptr(),
+    }
 }
 
 impl Tested {
@@ -71,7 +127,7 @@ impl Tested {
     ) -> u64 {
         // SAFETY: each pointer is that of a slice with the length beside it, borrowed until the call returns.
         unsafe {
-            (self.entry)(
+            (self.step)(
                 record.as_mut_ptr(),
                 record.len(),
                 image.as_mut_ptr(),
@@ -84,7 +140,6 @@ impl Tested {
         }
     }
 
-    /// "An empty slice may have any pointer": `empty` is the one it gets.
     pub fn step_empty_at(
         self,
         empty: usize,
@@ -94,22 +149,49 @@ impl Tested {
         pins: u8,
         accesses: &mut [u8],
     ) -> u64 {
-        let at = |slice: &mut [u8]| match slice.len() {
-            0 => empty as *mut u8,
-            _ => slice.as_mut_ptr(),
-        };
         // SAFETY: as above, and nothing is read or written through the pointer of an empty slice.
         unsafe {
-            (self.entry)(
-                at(record),
+            (self.step)(
+                at_mut(record, empty),
                 record.len(),
-                at(image),
+                at_mut(image, empty),
                 image.len(),
                 lines,
                 pins,
-                at(accesses),
+                at_mut(accesses, empty),
                 accesses.len(),
             )
+        }
+    }
+
+    pub fn run(
+        self,
+        noise: Noise,
+        record: &mut [u8],
+        image: &mut [u8],
+        script: &[u8],
+        accesses: &mut [u8],
+    ) -> Ran {
+        let (mut steps, mut listed) = (noise.steps, noise.listed);
+        // SAFETY: as above, and the two numbers are locals.
+        let word = unsafe {
+            (self.run)(
+                at_mut(record, noise.empty),
+                record.len(),
+                at_mut(image, noise.empty),
+                image.len(),
+                at(script, noise.empty),
+                script.len(),
+                at_mut(accesses, noise.empty),
+                accesses.len(),
+                &mut steps,
+                &mut listed,
+            )
+        };
+        Ran {
+            word,
+            steps,
+            listed,
         }
     }
 }

@@ -5,10 +5,9 @@ mod kinds;
 use crate::cases::{
     defined_opcodes, Case, Fault, IMAGE_FAULTS, INPUT_FAULTS, LONGEST_RECORD, RECORD_FAULTS,
 };
-use crate::record::{Part, Record};
+use crate::record::Record;
+use crate::report::{part_index, Report};
 use kinds::{Kind, KINDS};
-
-const PARTS: [&str; 3] = ["6502", "6508", "6509"];
 
 /// A wrong length hides the record, so 1 goes with neither 2 nor 6.
 const FAULT_PAIRS: [(u8, u8); 13] = [
@@ -39,14 +38,6 @@ pub struct Coverage {
     rooms: [u64; 65],
     long_rooms: u64,
     fault_pairs: [u64; FAULT_PAIRS.len()],
-}
-
-fn part_index(part: Part) -> usize {
-    match part {
-        Part::Mos6502 => 0,
-        Part::Mos6508 => 1,
-        Part::Mos6509 => 2,
-    }
 }
 
 impl Coverage {
@@ -115,23 +106,16 @@ impl Coverage {
 
     /// Prints every count; false where a needed one is zero.
     pub fn report(&self) -> bool {
-        let mut report = Report {
-            missing: Vec::new(),
-        };
+        let mut report = Report::new();
         println!("answered {}", self.numbers[0]);
         for (number, count) in self.numbers.iter().enumerate().skip(1) {
             report.row(&format!("refusal {}", number), *count);
         }
         report.opcodes(&self.opcodes);
-        for ((text, parts), counts) in KINDS.iter().zip(&self.kinds) {
-            report.kind(text, parts, counts);
-        }
+        report.kinds(KINDS, &self.kinds);
 
         println!("one fault alone:");
-        let mut lengths = self.record_lengths;
-        // Sixteen is no fault, and never the rarest.
-        lengths[16] = u64::MAX;
-        report.rarest("record length, 0 to 40 but 16", &lengths);
+        report.record_lengths(&self.record_lengths);
         report.rarest("room, 0 to 64", &self.rooms);
         report.row("room over 64", self.long_rooms);
         report.rows("record: ", &RECORD_FAULTS, &self.record_faults);
@@ -142,75 +126,6 @@ impl Coverage {
             report.row(&format!("{} before {}", low, high), count);
         }
 
-        for kind in &report.missing {
-            println!("never seen: {}", kind);
-        }
-        report.missing.is_empty()
-    }
-}
-
-struct Report {
-    missing: Vec<String>,
-}
-
-impl Report {
-    fn row(&mut self, text: &str, count: u64) {
-        println!("{:<34}{:>12}", text, count);
-        if count == 0 {
-            self.missing.push(text.to_string());
-        }
-    }
-
-    fn rows(&mut self, kind: &str, names: &[&str], counts: &[u64]) {
-        for (name, &count) in names.iter().zip(counts) {
-            self.row(&format!("{}{}", kind, name), count);
-        }
-    }
-
-    fn rarest(&mut self, text: &str, counts: &[u64]) {
-        let rarest = counts.iter().enumerate().min_by_key(|(_, &count)| count);
-        let (at, &count) = rarest.expect("a count for each length");
-        println!("{:<34}{:>12}  the rarest, {}", text, count, at);
-        if count == 0 {
-            self.missing.push(format!("{}: {}", text, at));
-        }
-    }
-
-    fn opcodes(&mut self, counts: &[[u64; 256]; 3]) {
-        print!("{:<34}", "");
-        for part in PARTS {
-            print!("{:>12}", part);
-        }
-        print!("\n{:<34}", "opcodes seen of 256");
-        for (part, counts) in PARTS.iter().zip(counts) {
-            let unseen = counts.iter().enumerate().filter(|(_, &count)| count == 0);
-            let unseen: Vec<usize> = unseen.map(|(opcode, _)| opcode).collect();
-            print!("{:>12}", 256 - unseen.len());
-            for opcode in unseen {
-                self.missing
-                    .push(format!("opcode {:02X} on {}", opcode, part));
-            }
-        }
-        print!("\n{:<34}", "the rarest of them");
-        for counts in counts {
-            print!("{:>12}", counts.iter().min().unwrap_or(&0));
-        }
-        println!();
-    }
-
-    /// `parts` holds the last digit of each part where the kind is needed.
-    fn kind(&mut self, text: &str, parts: &str, counts: &[u64; 3]) {
-        print!("{:<34}", text);
-        for (part, &count) in PARTS.iter().zip(counts) {
-            if !parts.contains(&part[3..]) {
-                print!("{:>12}", "-");
-                continue;
-            }
-            print!("{:>12}", count);
-            if count == 0 {
-                self.missing.push(format!("{} on {}", text, part));
-            }
-        }
-        println!();
+        report.is_whole()
     }
 }

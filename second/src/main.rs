@@ -14,21 +14,26 @@ mod opcodes;
 mod program;
 mod random;
 mod record;
+mod report;
+mod run;
+mod runs;
 
 use std::process::exit;
 use std::time::{SystemTime, UNIX_EPOCH};
 
 const USAGE: &str = "usage:
   second compare --steps N [--seed S] [--core CORE]
+  second runs --runs N [--seed S] [--core CORE]
   second arithmetic [--core CORE]
   second examples [--core CORE]
   second bench
 
-CORE is archive, yardstick or per-part. Without it, compare and arithmetic take the archive, or the yardstick
+CORE is archive, yardstick or per-part. Without it, compare, runs and arithmetic take the archive, or the yardstick
 where the program was built without one, and examples takes every core.";
 
 struct Options {
     steps: Option<u64>,
+    runs: Option<u64>,
     seed: Option<u64>,
     core: Option<cores::Tested>,
 }
@@ -41,16 +46,16 @@ fn main() {
     };
     let options = read_options(rest);
     let core = options.core.unwrap_or(cores::all()[0]);
-    let passed = match (command.as_str(), options.steps) {
-        ("compare", Some(steps)) => {
-            compare::compare(core, steps, options.seed.unwrap_or_else(seed_from_time))
-        }
-        ("arithmetic", None) => arithmetic::arithmetic(core),
-        ("examples", None) => match options.core {
+    let seed = options.seed.unwrap_or_else(seed_from_time);
+    let passed = match (command.as_str(), options.steps, options.runs) {
+        ("compare", Some(steps), None) => compare::compare(core, steps, seed),
+        ("runs", None, Some(runs)) => runs::runs(core, runs, seed),
+        ("arithmetic", None, None) => arithmetic::arithmetic(core),
+        ("examples", None, None) => match options.core {
             Some(core) => examples::examples(&[core]),
             None => examples::examples(cores::all()),
         },
-        ("bench", None) => bench::bench(),
+        ("bench", None, None) => bench::bench(),
         _ => fail(USAGE),
     };
     if !passed {
@@ -61,6 +66,7 @@ fn main() {
 fn read_options(arguments: &[String]) -> Options {
     let mut options = Options {
         steps: None,
+        runs: None,
         seed: None,
         core: None,
     };
@@ -71,6 +77,7 @@ fn read_options(arguments: &[String]) -> Options {
         };
         match name {
             "--steps" => options.steps = Some(number(value)),
+            "--runs" => options.runs = Some(number(value)),
             "--seed" => options.seed = Some(number(value)),
             "--core" => match cores::named(value) {
                 Some(core) => options.core = Some(core),

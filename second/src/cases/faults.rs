@@ -1,6 +1,6 @@
 //! Damaged inputs: each refusal from 1 to 5 by every way that leads to it, alone or with others.
 
-use super::{Case, Cases, Pair, GUARD, LEAST_ROOM, LONGEST_RECORD, POOL};
+use super::{malform, Case, Cases, Pair, GUARD, LEAST_ROOM, LONGEST_RECORD, POOL};
 use crate::bus::BANK;
 use crate::random::Random;
 
@@ -13,20 +13,6 @@ pub enum Fault {
     Inputs(usize),
     Room(usize),
 }
-
-pub const RECORD_FAULTS: [&str; 11] = [
-    "part",
-    "P bit 4 set",
-    "P bit 5 clear",
-    "6502 byte 8",
-    "6502 byte 9",
-    "6509 byte 8",
-    "6509 byte 9",
-    "6502 byte 10",
-    "6508 byte 10",
-    "6509 byte 10",
-    "6509 byte 11",
-];
 
 pub const IMAGE_FAULTS: [&str; 16] = [
     "empty",
@@ -92,64 +78,12 @@ impl Cases {
     }
 
     fn damage_record(&mut self, case: &mut Case) -> Fault {
-        let own: &[usize] = match self.record[0] {
-            2 => &[3, 4, 7],
-            8 => &[8],
-            _ => &[5, 6, 9, 10],
-        };
-        let fault = match self.random.below(6) {
-            n @ 0..=2 => n,
-            _ => self.random.pick(own),
-        };
-        let over = |random: &mut Random, limit: usize| random.between(limit + 1, 255) as u8;
-        let random = &mut self.random;
-        match fault {
-            0 => {
-                while matches!(case.record[0], 2 | 8 | 9) {
-                    case.record[0] = random.edge_or_byte() & random.pick(&[0x0F, 0xFF]);
-                }
-            }
-            1 => case.record[5] |= 0x10,
-            2 => case.record[5] &= !0x20,
-            3 => case.record[8] = over(random, 0),
-            4 => case.record[9] = over(random, 0),
-            5 => case.record[8] = over(random, 15),
-            6 => case.record[9] = over(random, 15),
-            8 if random.one_in(2) => case.record[10] = 1,
-            8 => case.record[10] = over(random, 0),
-            7 | 9 => case.record[10] = over(random, 1),
-            _ => case.record[11] = over(random, 0),
-        }
-        Fault::Record(fault)
+        Fault::Record(malform(&mut self.random, self.record[0], &mut case.record))
     }
 
     fn damage_image(&mut self, case: &mut Case) -> Fault {
-        let own: &[usize] = match self.record[0] {
-            2 => &[3, 3, 3, 4],
-            8 => &[5, 5, 5, 6],
-            _ => &[7, 7, 7, 8, 9, 10, 11, 12, 15],
-        };
-        let fault = match self.random.below(10) {
-            n @ 0..=2 => n,
-            n @ 3..=4 => n + 10,
-            _ => self.random.pick(own),
-        };
-        case.image_len = match fault {
-            0 => 0,
-            1 => BANK - 1,
-            2 => BANK + 1,
-            3 | 5 => 2 * BANK,
-            4 | 6 => 16 * BANK,
-            7 => 3 * BANK,
-            8 => self.random.between(5, 7) * BANK,
-            9 => self.random.between(9, 15) * BANK,
-            10 => 17 * BANK,
-            11 => self.random.pick(&[2, 2, 4, 8, 16]) * BANK - 1,
-            12 => self.random.pick(&[2, 2, 4, 8, 16]) * BANK + 1,
-            13 => self.random.between(1, BANK - 2),
-            14 => self.random.between(BANK + 2, 2 * BANK - 1),
-            _ => 32 * BANK,
-        };
+        let (fault, length) = wrong_image_length(&mut self.random, self.record[0]);
+        case.image_len = length;
         if case.image_len > self.pool[case.pair].banks * BANK + GUARD {
             let needed = |pair: &Pair| case.image_len <= pair.banks * BANK + GUARD;
             case.pair = self.pool.iter().position(needed).unwrap_or(POOL.len() - 1);
@@ -160,20 +94,8 @@ impl Cases {
     }
 
     fn damage_inputs(&mut self, case: &mut Case) -> Fault {
-        let fault = match self.random.below(8) {
-            n @ 0..=4 => n,
-            _ => match self.record[0] {
-                8 => 5,
-                2 => 6,
-                _ => 7,
-            },
-        };
-        match fault {
-            0..=4 => case.lines |= 8 << fault,
-            5 => case.lines |= 2,
-            _ => case.pins = self.random.between(1, 255) as u8,
-        }
-        Fault::Inputs(fault)
+        let inputs = (&mut case.lines, &mut case.pins);
+        Fault::Inputs(spoil_inputs(&mut self.random, self.record[0], inputs))
     }
 
     fn damage_room(&mut self, case: &mut Case) -> Fault {
@@ -183,4 +105,53 @@ impl Cases {
         };
         Fault::Room(case.room)
     }
+}
+
+/// Which of the names it is, and the length.
+pub fn wrong_image_length(random: &mut Random, part: u8) -> (usize, usize) {
+    let own: &[usize] = match part {
+        2 => &[3, 3, 3, 4],
+        8 => &[5, 5, 5, 6],
+        _ => &[7, 7, 7, 8, 9, 10, 11, 12, 15],
+    };
+    let fault = match random.below(10) {
+        n @ 0..=2 => n,
+        n @ 3..=4 => n + 10,
+        _ => random.pick(own),
+    };
+    let length = match fault {
+        0 => 0,
+        1 => BANK - 1,
+        2 => BANK + 1,
+        3 | 5 => 2 * BANK,
+        4 | 6 => 16 * BANK,
+        7 => 3 * BANK,
+        8 => random.between(5, 7) * BANK,
+        9 => random.between(9, 15) * BANK,
+        10 => 17 * BANK,
+        11 => random.pick(&[2, 2, 4, 8, 16]) * BANK - 1,
+        12 => random.pick(&[2, 2, 4, 8, 16]) * BANK + 1,
+        13 => random.between(1, BANK - 2),
+        14 => random.between(BANK + 2, 2 * BANK - 1),
+        _ => 32 * BANK,
+    };
+    (fault, length)
+}
+
+/// Which of the names it is.
+pub fn spoil_inputs(random: &mut Random, part: u8, (lines, pins): (&mut u8, &mut u8)) -> usize {
+    let fault = match random.below(8) {
+        n @ 0..=4 => n,
+        _ => match part {
+            8 => 5,
+            2 => 6,
+            _ => 7,
+        },
+    };
+    match fault {
+        0..=4 => *lines |= 8 << fault,
+        5 => *lines |= 2,
+        _ => *pins = random.between(1, 255) as u8,
+    }
+    fault
 }

@@ -1,20 +1,10 @@
 //! The kinds of steps that are done, each told from the states around it and the list of its accesses.
 
-use super::{part_index, Coverage};
+use super::Coverage;
 use crate::bus::{ACCESS, BANK, MOST_ACCESSES};
 use crate::cases::Case;
 use crate::record::{Part, Record, D, I};
-
-/// Name, the parts where it must be seen, and its line in the report.
-macro_rules! kinds {
-    ($($name:ident $parts:literal $text:literal,)*) => {
-        #[derive(Clone, Copy)]
-        pub enum Kind {
-            $($name,)*
-        }
-        pub const KINDS: &[(&str, &str)] = &[$(($text, $parts),)*];
-    };
-}
+use crate::report::{kinds, part_index};
 
 kinds! {
     Fresh "289" "fresh state",
