@@ -58,6 +58,13 @@ entries! {
     per_part_step per_part_run,
 }
 
+// The yardsticks have no restart file.
+#[cfg(not(yardstick_only))]
+extern "C" {
+    fn wankitare_restart(file: *const u8, file_len: usize) -> u64;
+    fn wankitare_append_at(file_len: u64) -> u64;
+}
+
 #[derive(Clone, Copy)]
 pub struct Tested {
     pub name: &'static str,
@@ -194,4 +201,16 @@ impl Tested {
             listed,
         }
     }
+}
+
+#[cfg(not(yardstick_only))]
+pub fn restart(file: &[u8], empty: usize) -> u64 {
+    // SAFETY: as above.
+    unsafe { wankitare_restart(at(file, empty), file.len()) }
+}
+
+#[cfg(not(yardstick_only))]
+pub fn append_at(file_len: u64) -> u64 {
+    // SAFETY: it takes and answers numbers.
+    unsafe { wankitare_append_at(file_len) }
 }

@@ -15,6 +15,10 @@ mod program;
 mod random;
 mod record;
 mod report;
+#[cfg(not(yardstick_only))]
+mod restart;
+#[cfg(not(yardstick_only))]
+mod restarts;
 mod run;
 mod runs;
 
@@ -24,12 +28,13 @@ use std::time::{SystemTime, UNIX_EPOCH};
 const USAGE: &str = "usage:
   second compare --steps N [--seed S] [--core CORE]
   second runs --runs N [--seed S] [--core CORE]
+  second restart [--seed S]
   second arithmetic [--core CORE]
   second examples [--core CORE]
   second bench
 
 CORE is archive, yardstick or per-part. Without it, compare, runs and arithmetic take the archive, or the yardstick
-where the program was built without one, and examples takes every core.";
+where the program was built without one, and examples takes every core. Only the archive has restart.";
 
 struct Options {
     steps: Option<u64>,
@@ -50,6 +55,8 @@ fn main() {
     let passed = match (command.as_str(), options.steps, options.runs) {
         ("compare", Some(steps), None) => compare::compare(core, steps, seed),
         ("runs", None, Some(runs)) => runs::runs(core, runs, seed),
+        #[cfg(not(yardstick_only))]
+        ("restart", None, None) => restarts::restarts(seed),
         ("arithmetic", None, None) => arithmetic::arithmetic(core),
         ("examples", None, None) => match options.core {
             Some(core) => examples::examples(&[core]),
