@@ -1,22 +1,26 @@
-//! Nanoseconds per step, each core on the same program, in turns within one process.
+//! Nanoseconds per step, step by step and in runs, each core on the same program, in turns within one process.
 
-use crate::bus::BANK;
+use crate::bus::{ACCESS, BANK, MOST_ACCESSES};
 use crate::core::step;
-use crate::cores::{self, Tested};
+use crate::cores::{self, Noise, Tested};
 use crate::program::{PROGRAM, START};
+use crate::run::{run, Ran};
 use std::time::{Duration, Instant};
 
 /// Many short turns for every line and core: the least of them is steady.
-const ROUNDS: usize = 30;
-const TURN: Duration = Duration::from_millis(30);
-const BATCH: u64 = 20_000;
+const ROUNDS: usize = 60;
+const TURN: Duration = Duration::from_millis(10);
+const BATCH: usize = 20_000;
 const AGREED_STEPS: usize = 200_000;
+const AGREED_RUNS: usize = 200;
 
 #[derive(Clone)]
 struct Board {
     record: [u8; 16],
     image: Vec<u8>,
     accesses: Vec<u8>,
+    /// Empty where the board makes its steps one by one.
+    script: Vec<u8>,
 }
 
 impl Board {
@@ -43,10 +47,41 @@ impl Board {
             record,
             image,
             accesses: vec![0; room],
+            script: Vec::new(),
         }
     }
 
-    fn run(&mut self, core: Tested, steps: u64) {
+    /// With a script of so many steps, and room for them whatever they do.
+    fn with_runs(part: u8, banks: usize, steps: usize) -> Board {
+        let mut board = Board::new(part, banks, steps * MOST_ACCESSES * ACCESS);
+        board.script = vec![0; 2 * steps];
+        board
+    }
+
+    fn play(&mut self, core: Tested, steps: usize) {
+        match self.script.len() / 2 {
+            0 => self.play_steps(core, steps),
+            length => (0..steps / length).for_each(|_| self.play_run(core, length)),
+        }
+    }
+
+    fn play_run(&mut self, core: Tested, length: usize) {
+        let ran = self.run(core);
+        let is_whole = ran.word == 0 && ran.steps == length as u64;
+        assert!(is_whole, "{} ends a run of the program early", core.name);
+    }
+
+    fn run(&mut self, core: Tested) -> Ran {
+        core.run(
+            Noise::default(),
+            &mut self.record,
+            &mut self.image,
+            &self.script,
+            &mut self.accesses,
+        )
+    }
+
+    fn play_steps(&mut self, core: Tested, steps: usize) {
         let mut refused = 0;
         for _ in 0..steps {
             let (record, image) = (&mut self.record, &mut self.image);
@@ -79,7 +114,7 @@ impl Line {
 
     fn print(&self) {
         let first = self.runs[0].1;
-        print!("{:<24}{:>12.2}", self.name, first);
+        print!("{:<28}{:>12.2}", self.name, first);
         for (_, least) in &self.runs[1..] {
             print!("{:>12.2}{:>12.2}", least, first / least);
         }
@@ -89,38 +124,70 @@ impl Line {
 
 /// False where a core and the second program do not agree on the program.
 pub fn bench() -> bool {
-    let parts = [
+    let steps = [
         ("6502", Board::new(2, 1, 64)),
         ("6508", Board::new(8, 1, 64)),
         ("6509, 4 banks", Board::new(9, 4, 64)),
     ];
-    for core in cores::all() {
-        for (name, board) in &parts {
-            if !agree(*core, board.clone()) {
-                println!("{} and second differ on the {}", core.name, name);
-                return false;
-            }
-        }
+    let runs = [
+        ("6502, 1000 steps", Board::with_runs(2, 1, 1000)),
+        ("6508, 1000 steps", Board::with_runs(8, 1, 1000)),
+        ("6509, 4 banks, 1000 steps", Board::with_runs(9, 4, 1000)),
+    ];
+    if !steps
+        .iter()
+        .all(|(name, board)| all_agree(name, board, agree))
+        || !runs
+            .iter()
+            .all(|(name, board)| all_agree(name, board, agree_in_runs))
+    {
+        return false;
     }
-    println!("{} steps agree on each part", AGREED_STEPS);
+    println!(
+        "{} steps and {} runs agree on each part",
+        AGREED_STEPS, AGREED_RUNS
+    );
 
-    let mut lines: Vec<Line> = parts.map(|(name, board)| Line::new(name, board)).into();
+    let mut steps: Vec<Line> = steps.map(|(name, board)| Line::new(name, board)).into();
     // No cost for what a step does not touch.
-    lines.push(Line::new("6509, 1 bank", Board::new(9, 1, 64)));
-    lines.push(Line::new("6509, 16 banks", Board::new(9, 16, 64)));
-    lines.push(Line::new("6502, room 56", Board::new(2, 1, 56)));
-    lines.push(Line::new("6502, room 65536", Board::new(2, 1, 65_536)));
+    steps.push(Line::new("6509, 1 bank", Board::new(9, 1, 64)));
+    steps.push(Line::new("6509, 16 banks", Board::new(9, 16, 64)));
+    steps.push(Line::new("6502, room 56", Board::new(2, 1, 56)));
+    steps.push(Line::new("6502, room 65536", Board::new(2, 1, 65_536)));
+    let mut runs: Vec<Line> = runs.map(|(name, board)| Line::new(name, board)).into();
+    // The same cost for each step, however many there are.
+    runs.push(Line::new("6502, 10 steps", Board::with_runs(2, 1, 10)));
+    runs.push(Line::new("6502, 100 steps", Board::with_runs(2, 1, 100)));
+    runs.push(Line::new(
+        "6502, 10000 steps",
+        Board::with_runs(2, 1, 10_000),
+    ));
     for _ in 0..ROUNDS {
-        lines.iter_mut().for_each(Line::take_turn);
+        steps.iter_mut().for_each(Line::take_turn);
+        runs.iter_mut().for_each(Line::take_turn);
     }
+    print_table("ns per step", &steps);
+    print_table("ns per instruction in runs", &runs);
+    true
+}
 
-    print!("{:<24}{:>12}", "ns per step", cores::all()[0].name);
+fn print_table(title: &str, lines: &[Line]) {
+    print!("{:<28}{:>12}", title, cores::all()[0].name);
     for core in &cores::all()[1..] {
         print!("{:>12}{:>12}", core.name, "ratio");
     }
     println!();
     lines.iter().for_each(Line::print);
-    true
+}
+
+fn all_agree(name: &str, board: &Board, agree: fn(Tested, Board) -> bool) -> bool {
+    cores::all().iter().all(|&core| {
+        let is_same = agree(core, board.clone());
+        if !is_same {
+            println!("{} and second differ on the {}", core.name, name);
+        }
+        is_same
+    })
 }
 
 fn agree(core: Tested, mut mine: Board) -> bool {
@@ -137,11 +204,28 @@ fn agree(core: Tested, mut mine: Board) -> bool {
     })
 }
 
+fn agree_in_runs(core: Tested, mut mine: Board) -> bool {
+    let mut theirs = mine.clone();
+    (0..AGREED_RUNS).all(|_| {
+        let my_answer = run(
+            &mut mine.record,
+            &mut mine.image,
+            &mine.script,
+            &mut mine.accesses,
+        );
+        my_answer == theirs.run(core)
+            && my_answer.word == 0
+            && mine.record == theirs.record
+            && mine.accesses == theirs.accesses
+            && mine.image == theirs.image
+    })
+}
+
 fn nanoseconds(core: Tested, board: &mut Board) -> f64 {
     let start = Instant::now();
     let mut steps = 0;
     while start.elapsed() < TURN {
-        board.run(core, BATCH);
+        board.play(core, BATCH);
         steps += BATCH;
     }
     start.elapsed().as_nanos() as f64 / steps as f64
