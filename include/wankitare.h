@@ -1,8 +1,8 @@
 /*
- * Wankitare: a 6502, 6508 or 6509, one step at a time.
+ * Wankitare: a 6502, 6508 or 6509, one step or a run of steps at a time, and the file that it restarts from.
  *
  * The board lends all memory: a state record of 16 bytes, the memory image and room for a list of bus accesses. The
- * library keeps nothing between calls and allocates nothing, so steps on different buffers may be done on different
+ * library keeps nothing between calls and allocates nothing, so calls on different buffers may be made on different
  * threads at once.
  *
  *     uint64_t word = wankitare_step(record, sizeof record, image, sizeof image, lines, 0, accesses, sizeof accesses);
@@ -23,15 +23,16 @@ extern "C" {
 #endif
 
 /*
- * Refusals. They are tested in this order and the first that applies is given; a refused step has changed no byte of any
- * buffer.
+ * Refusals. A step tests 1 to 6 in this order and the first that applies is given; a refused step has changed no byte
+ * of any buffer. A run tests 1, 2, 3 and 7 before anything, then 4 to 6 in each step. Of a restart file 8 is tested,
+ * then 2.
  */
 enum {
     /* record_len is not 16. */
     WANKITARE_RECORD_LENGTH = 1,
 
     /* The record is none that a step could have written (see the record below): it is damaged, or was never set up.
-       Restart from one that was saved. */
+       Restart from one that was saved. Of a restart file it is the last whole record that is so. */
     WANKITARE_RECORD_MALFORMED = 2,
 
     /* image_len is not 65,536; or, for a 6509, not 1, 2, 4, 8 or 16 times that. */
@@ -40,12 +41,20 @@ enum {
     /* An input that the part lacks: bits 3 to 7 of lines, NMI on a 6508, or pins not 0 on any other part. */
     WANKITARE_LINES_OR_PINS = 4,
 
-    /* accesses_len is under 56. Each step wants room for the longest list, whatever it will do. */
+    /* accesses_len is under 56, or in a run what is left of it. Each step wants room for the longest list, whatever it
+       will do. */
     WANKITARE_ACCESS_ROOM = 5,
 
     /* The opcode at PC is none of the 151. wankitare_opcode and wankitare_pc tell which, and where. The processor stays
        there until a reset or an interrupt takes it away. */
-    WANKITARE_UNDEFINED_OPCODE = 6
+    WANKITARE_UNDEFINED_OPCODE = 6,
+
+    /* script_len is odd. */
+    WANKITARE_SCRIPT_LENGTH = 7,
+
+    /* The restart file is under 16 or over 65,536 bytes, so that it holds no record to restart from; or an append would
+       take it past 65,536. */
+    WANKITARE_FILE_LENGTH = 8
 };
 
 /* Lengths in bytes. */
@@ -53,7 +62,8 @@ enum {
     WANKITARE_RECORD_BYTES = 16,
     WANKITARE_BANK_BYTES = 65536,
     WANKITARE_ACCESS_BYTES = 8,
-    WANKITARE_STEP_ROOM = 56
+    WANKITARE_STEP_ROOM = 56,
+    WANKITARE_MOST_FILE_BYTES = 65536
 };
 
 /* The input lines, 1 meaning asserted. RES goes before NMI, and NMI before IRQ. */
@@ -88,12 +98,74 @@ enum {
  *
  * The three buffers must not overlap; none needs any alignment, and an empty one may have any pointer.
  *
- * Answers a word: take it apart by the functions below.
+ * Answers a word, as every call does: take it apart by the functions below. Its bits:
+ *     0..7    the refusal's number, 0 where there is none
+ *     8..15   step done: the number of its accesses; refusal 6: the opcode; record found: the tail's length
+ *     16..31  refusal 6: PC; record found, place for the next one: that place, up to bit 47
+ *     others  0
  */
 uint64_t wankitare_step(uint8_t *record, size_t record_len, uint8_t *image, size_t image_len,
                         uint8_t lines, uint8_t pins, uint8_t *accesses, size_t accesses_len);
 
-/* The refusal's number, or 0 where the step was done. */
+/*
+ * Does a run: one step after another, by a script.
+ *
+ * record    As for a step: the state before the first step, and then that after the last step done.
+ * image     The memory, changed by what the steps write.
+ * script    Two bytes for each step: its lines and its pins.
+ * accesses  The lists of the steps one after another. Each step wants 56 bytes of what is left: 56 times the number of
+ *           steps is always enough. The bytes behind the last list stay as they are.
+ * steps     How many steps were done.
+ * listed    How many accesses they made, of 8 bytes each, from the front of accesses on.
+ *
+ * *steps and *listed are set on every return, both to 0 where no step was done; what they were before does not matter.
+ *
+ * The four buffers must not overlap; none needs any alignment, and an empty one may have any pointer. steps and listed
+ * lead to two separate objects, which lie in none of the buffers.
+ *
+ * Answers 0 where the script was played to its end; an empty one is so at once. Otherwise the word of a refusal: of 1,
+ * 2, 3 or 7, and nothing was done; or of the step that was refused, and the steps before it stand. The refused step
+ * has changed nothing, so where its list found no room the run can go on once the lists were taken away:
+ *
+ *     word = wankitare_run(record, sizeof record, image, sizeof image, script, script_len, accesses, sizeof accesses,
+ *                          &steps, &listed);
+ *     log_accesses(accesses, listed);
+ *     script += 2 * steps;
+ *     script_len -= 2 * steps;
+ */
+uint64_t wankitare_run(uint8_t *record, size_t record_len, uint8_t *image, size_t image_len,
+                       const uint8_t *script, size_t script_len, uint8_t *accesses, size_t accesses_len,
+                       uint64_t *steps, uint64_t *listed);
+
+/*
+ * Finds the record to restart from in a restart file, which is state records in a row and then a tail of 0 to 15 bytes:
+ * what an append that was cut has left.
+ *
+ *     word = wankitare_restart(file, file_len);
+ *     if (wankitare_refusal(word) == 0)
+ *         memcpy(record, file + wankitare_place(word), sizeof record);
+ *
+ * It is the last whole record. Where that is malformed the answer is 2, and no older record is taken in its place; it
+ * is 8 where the file is under 16 or over 65,536 bytes. The file is only read.
+ */
+uint64_t wankitare_restart(const uint8_t *file, size_t file_len);
+
+/*
+ * Where the next record goes in a restart file of this length: behind its last whole record. The board truncates the
+ * file there, which drops a tail, and then writes the sixteen bytes:
+ *
+ *     word = wankitare_append_at(file_len);
+ *     if (wankitare_refusal(word) == 0) {
+ *         ftruncate(file, wankitare_place(word));
+ *         pwrite(file, record, sizeof record, wankitare_place(word));
+ *     }
+ *
+ * So a cut at any byte of an append leaves a file in which wankitare_restart finds the record that was last completely
+ * written, or gives 8 if there is none. Here 8 says that the file would pass 65,536 bytes: the board begins a new one.
+ */
+uint64_t wankitare_append_at(uint64_t file_len);
+
+/* The refusal's number, or 0 where there was none. */
 static inline unsigned wankitare_refusal(uint64_t word)
 {
     return (unsigned)(word & 0xFF);
@@ -115,6 +187,18 @@ static inline uint8_t wankitare_opcode(uint64_t word)
 static inline uint16_t wankitare_pc(uint64_t word)
 {
     return (uint16_t)(word >> 16 & 0xFFFF);
+}
+
+/* Record found: how many bytes of the file follow it, 0 to 15. They are no record, and the next append drops them. */
+static inline unsigned wankitare_tail(uint64_t word)
+{
+    return (unsigned)(word >> 8 & 0xFF);
+}
+
+/* Record found, or place for the next one: where in the file it begins, in bytes. */
+static inline uint32_t wankitare_place(uint64_t word)
+{
+    return (uint32_t)(word >> 16 & 0xFFFFFFFF);
 }
 
 #ifdef __cplusplus
