@@ -1,5 +1,6 @@
-/* Runs examples.txt, given as standard input, on the archive that this is linked with, through the board's header. It
-   shows that an x86-64 archive links and answers wherever x86-64 programs run, and needs no headers of a C library. */
+/* Runs examples.txt, given as standard input, as steps and as runs of one step, then some runs, restart files and
+   appends, on the archive that this is linked with, through the board's header. It shows that an x86-64 archive links
+   and answers wherever x86-64 programs run, and needs no headers of a C library. */
 
 #include "wankitare.h"
 
@@ -18,7 +19,7 @@ struct buffers {
     uint8_t accesses[MOST_ROOM];
 };
 
-static struct buffers given, left;
+static struct buffers given, run_given, left;
 static size_t banks, room;
 static uint8_t pins;
 static uint64_t word;
@@ -28,7 +29,7 @@ static char line[128];
 static char name[sizeof line];
 static uint8_t bytes[sizeof line / 2]; /* of the line */
 static size_t count;
-static unsigned run, failed;
+static unsigned run, checked, failed;
 
 static int read_line(void)
 {
@@ -122,19 +123,102 @@ static int details_hold(uint64_t answer)
     }
 }
 
+static void check(const char *what, int holds)
+{
+    checked++;
+    if (!holds) {
+        printf("fails: %s\n", what);
+        failed++;
+    }
+}
+
+/* The example as a run of one step. */
+static int run_holds(void)
+{
+    uint8_t script[] = {0, pins};
+    uint64_t steps = 99, accesses = 99;
+    uint64_t answer = wankitare_run(run_given.record, sizeof run_given.record, run_given.image,
+                                    banks * WANKITARE_BANK_BYTES, script, sizeof script, run_given.accesses, room,
+                                    &steps, &accesses);
+    int is_done = wankitare_refusal(word) == 0;
+
+    return answer == (is_done ? 0 : word) && steps == (is_done ? 1 : 0) && accesses == listed &&
+           memcmp(&run_given, &left, sizeof left) == 0;
+}
+
 static void finish(void)
 {
     uint64_t answer;
 
     if (name[0] == 0)
         return;
+    memcpy(&run_given, &given, sizeof given);
     answer = wankitare_step(given.record, sizeof given.record, given.image, banks * WANKITARE_BANK_BYTES, 0, pins,
                             given.accesses, room);
     run++;
-    if (answer != word || !details_hold(answer) || memcmp(&given, &left, sizeof given) != 0) {
-        printf("fails: %s\n", name);
-        failed++;
-    }
+    check(name, answer == word && details_hold(answer) && memcmp(&given, &left, sizeof given) == 0 && run_holds());
+}
+
+/* LDA #42 and NOP are done; the next opcode is undefined. */
+static void check_runs(void)
+{
+    static const uint8_t program[] = {0xA9, 0x42, 0xEA, 0x02};
+    static const uint8_t before[WANKITARE_RECORD_BYTES] = {2, 0, 0, 0, 0xFF, 0x24, 0x00, 0x80};
+    static const uint8_t after[WANKITARE_RECORD_BYTES] = {2, 0x42, 0, 0, 0xFF, 0x24, 0x03, 0x80, 0, 0, 0, 0, 4};
+    static const uint8_t lists[] = {0, 0x80, 0, 0xA9, 0, 0, 0, 0, 1, 0x80, 0, 0x42, 0, 0, 0, 0,
+                                    2, 0x80, 0, 0xEA, 0, 0, 0, 0, 3, 0x80, 0, 0x02, 0, 0, 0, 0};
+    static const uint8_t script[6];
+    uint8_t record[WANKITARE_RECORD_BYTES], accesses[sizeof lists + WANKITARE_STEP_ROOM];
+    uint8_t *image = given.image;
+    uint64_t steps = 99, accessed = 99;
+
+    memset(image, 0, WANKITARE_BANK_BYTES);
+    memcpy(image + 0x8000, program, sizeof program);
+    memcpy(record, before, sizeof record);
+    memset(accesses, UNTOUCHED, sizeof accesses);
+
+    word = wankitare_run(record, sizeof record, image, WANKITARE_BANK_BYTES, script, 3, accesses, sizeof accesses,
+                         &steps, &accessed);
+    check("run, odd script", word == WANKITARE_SCRIPT_LENGTH && steps == 0 && accessed == 0);
+    steps = accessed = 99;
+    word = wankitare_run(record, sizeof record, image, WANKITARE_BANK_BYTES, script, 0, accesses, 0, &steps, &accessed);
+    check("run, empty script", word == 0 && steps == 0 && accessed == 0);
+    check("run, nothing done", memcmp(record, before, sizeof record) == 0 && accesses[0] == UNTOUCHED);
+
+    word = wankitare_run(record, sizeof record, image, WANKITARE_BANK_BYTES, script, 6, accesses,
+                         WANKITARE_STEP_ROOM + 8, &steps, &accessed);
+    check("run, room for a step", word == WANKITARE_ACCESS_ROOM && steps == 1 && accessed == 2);
+    memcpy(record, before, sizeof record);
+    word = wankitare_run(record, sizeof record, image, WANKITARE_BANK_BYTES, script, 6, accesses, sizeof accesses,
+                         &steps, &accessed);
+    check("run, undefined opcode", wankitare_refusal(word) == WANKITARE_UNDEFINED_OPCODE &&
+                                       wankitare_opcode(word) == 0x02 && wankitare_pc(word) == 0x8003);
+    check("run, steps done", steps == 2 && accessed == 4 && memcmp(record, after, sizeof record) == 0 &&
+                                 memcmp(accesses, lists, sizeof lists) == 0 && accesses[sizeof lists] == UNTOUCHED);
+}
+
+static void check_restart(void)
+{
+    uint8_t file[2 * WANKITARE_RECORD_BYTES + 15] = {2, 0, 0, 0, 0, 0x20};
+    uint8_t *last = file + WANKITARE_RECORD_BYTES;
+
+    word = wankitare_restart(file, WANKITARE_RECORD_BYTES + 15);
+    check("restart, one record", word == 15 << 8 && wankitare_place(word) == 0 && wankitare_tail(word) == 15);
+    check("restart, last record malformed", wankitare_restart(file, sizeof file) == WANKITARE_RECORD_MALFORMED);
+    memcpy(last, file, WANKITARE_RECORD_BYTES);
+    word = wankitare_restart(file, sizeof file - 8);
+    check("restart, two records", word == (16 << 16 | 7 << 8) && wankitare_place(word) == 16 &&
+                                      wankitare_tail(word) == 7);
+    check("restart, file too short", wankitare_restart(file, 15) == WANKITARE_FILE_LENGTH);
+}
+
+static void check_append(void)
+{
+    check("append, first record", wankitare_append_at(15) == 0);
+    check("append, tail dropped", wankitare_place(wankitare_append_at(40)) == 32);
+    check("append, last place", wankitare_append_at(65535) == (uint64_t)65520 << 16);
+    check("append, file full", wankitare_append_at(WANKITARE_MOST_FILE_BYTES) == WANKITARE_FILE_LENGTH);
+    check("append, no length", wankitare_append_at(UINT64_MAX) == WANKITARE_FILE_LENGTH);
 }
 
 int main(void)
@@ -170,6 +254,9 @@ int main(void)
         }
     }
     finish();
-    printf("%u examples through the header: %u failed\n", run, failed);
+    check_runs();
+    check_restart();
+    check_append();
+    printf("%u examples and %u cases through the header: %u failed\n", run, checked - run, failed);
     return run == 0 || failed != 0;
 }
