@@ -37,7 +37,8 @@ pub struct Drawn {
 pub struct Draw {
     pub random: Random,
     pub pool: Vec<Images>,
-    defined: Vec<u8>,
+    /// A defined opcode for every byte.
+    code: Vec<u8>,
     undefined: Vec<u8>,
 }
 
@@ -56,11 +57,12 @@ const POOL: [(usize, usize); 8] = [
 impl Draw {
     pub fn new(seed: u64) -> Draw {
         let is_defined = defined_opcodes();
-        let (defined, undefined) = (0..=255).partition(|&opcode| is_defined[usize::from(opcode)]);
+        let (defined, undefined): (Vec<u8>, _) =
+            (0..=255).partition(|&opcode| is_defined[usize::from(opcode)]);
         let mut draw = Draw {
             random: Random::new(seed),
             pool: POOL.iter().map(|&of| Images::new(of)).collect(),
-            defined,
+            code: defined.iter().copied().cycle().take(256).collect(),
             undefined,
         };
         for (images, (banks, _)) in POOL.iter().enumerate() {
@@ -119,7 +121,7 @@ impl Draw {
         let mine = &mut mine[bank.clone()];
         self.random.fill(mine);
         for byte in mine.iter_mut() {
-            *byte = self.defined[usize::from(*byte) % self.defined.len()];
+            *byte = self.code[usize::from(*byte)];
         }
         for _ in 0..*undefined {
             mine[self.random.below(BANK)] = self.random.pick(&self.undefined);
