@@ -214,14 +214,13 @@ impl Seen {
         report.parts();
         report.kinds(KINDS, &self.kinds);
         for (i, number) in REFUSED.iter().enumerate() {
-            report.row(&format!("refusal {}", number), self.refused[i]);
+            let text = format!("refusal {} before anything", number);
+            report.row(&text, self.refused[i]);
         }
-        report.row("the script is one byte", self.one_byte);
+        report.row("7, script of one byte", self.one_byte);
         for (i, number) in REFUSED[..3].iter().enumerate() {
-            report.row(
-                &format!("refusal {}, empty script", number),
-                self.refused_empty[i],
-            );
+            let text = format!("{}, empty script", number);
+            report.row(&text, self.refused_empty[i]);
         }
         println!("one fault alone:");
         report.record_lengths(&self.record_lengths);
