@@ -1,0 +1,56 @@
+-- Texts put one behind the other.
+use Prim.Native.Nat.{ℕ, zero, suc, _+_, _*_, _≤_, _<_}
+use native.Mathlib.Omega.{arith}
+use mathlib.Core.Path.{_≡_, refl, sym, ap, _∙_}
+use mathlib.Core.List.{List, [], _∷_, _++_}
+use lib.ListN.{length, take, set, length-append}
+use lib.Seq.{sets, take-suc, length-take-le}
+use Rattle.rules.specs.Basics.{at}
+use Rattle.text.specs.Text.{space, newline, hex, each, accessLine, lineOf, bytesText, recordLine}
+
+pub sets-append : (xs ys l : List ℕ) (p : ℕ) → sets l p (xs ++ ys) ≡ sets (sets l p xs) (p + length xs) ys
+sets-append [] ys l p = let e : p + 0 ≡ p = omega arith in rw e
+sets-append (x ∷ xs) ys l p =
+    let e : p + suc (length xs) ≡ suc p + length xs = omega arith in rw e (sets-append xs ys (set l p x) (suc p))
+
+-- one element more of a piece
+pub sets-more : (t l : List ℕ) (p k : ℕ) → k < length l → set (sets t p (take k l)) (p + k) (at l k) ≡ sets t p (take (suc k) l)
+sets-more t l p k h =
+    let e = length-take-le k l (omega arith) in
+    rw (take-suc l k 0 h, sets-append (take k l) (at l k ∷ []) t p, e)
+
+module _ (f : ℕ → List ℕ) (w : ℕ) (wide : (k : ℕ) → length (f k) ≡ w) where
+  pub each-length : (n : ℕ) → length (each n f) ≡ n * w
+  unfolding each
+  each-length zero = omega arith
+  each-length (suc n) = rw (length-append (each n f) (f n), each-length n, wide n) (omega arith)
+
+  -- one more
+  pub each-more : (n p q : ℕ) (t : List ℕ) → q ≡ p + n * w → sets (sets t p (each n f)) q (f n) ≡ sets t p (each (suc n) f)
+  unfolding each
+  each-more n p q t e = rw (e, ← each-length n) (sym (sets-append (each n f) (f n) t p))
+
+pub line-length : (l : List ℕ) (k : ℕ) → length (lineOf l k) ≡ 12
+unfolding accessLine
+line-length l k = refl
+
+bytes-length : (r : List ℕ) → length (bytesText r) ≡ 32
+bytes-length r = each-length (λ k. hex (at r k)) 2 (λ k. refl) 16
+
+pub record-length : (r : List ℕ) → length (recordLine r) ≡ 35
+unfolding recordLine
+record-length r = rw (length-append, bytes-length r)
+
+-- a record's line is put in three pieces
+pub record-put : (r t : List ℕ) (p : ℕ) → sets (sets (sets t p (0x53 ∷ space ∷ [])) (p + 2) (bytesText r)) (p + 34) (newline ∷ []) ≡ sets t p (recordLine r)
+unfolding recordLine
+record-put r t p =
+    let e : p + 2 ≡ suc (suc p) = omega arith in
+    let q : p + 34 ≡ suc (suc p) + length (bytesText r) = omega (arith, bytes-length r) in
+    rw (e, q) (sym (sets-append (bytesText r) (newline ∷ []) (set (set t p 0x53) (suc p) space) (suc (suc p))))
+
+-- the first elements of a list, one by one
+pub take-each : (l : List ℕ) (n : ℕ) → n ≤ length l → take n l ≡ each n (λ k. at l k ∷ [])
+unfolding each
+take-each l zero h = refl
+take-each l (suc n) h = take-suc l n 0 h ∙ ap (λ (m : List ℕ). m ++ at l n ∷ []) (take-each l n (omega arith))

@@ -1,0 +1,70 @@
+use Rattle.text.specs.Text.{each, lineOf}
+use Rattle.text.proofs.Laws.{each-more, line-length}
+use Prim.Native.Nat.{_-_, _≤_}
+use native.Mathlib.Numerals.{add-one}
+use native.Mathlib.Omega.{arith}
+use mathlib.Core.Path.{_≡_, refl}
+use borrow.Author.Needs.{needs}
+use denote.Ref.{now}
+use lib.Seq.{sets, length-sets}
+use Rattle.text.proofs.put_accesses.Statement.{statement}
+use Rattle.text.proofs.put_accesses.Tie as tie
+
+abbrev Inv-loop : tie.InvT-loop
+Inv-loop text₀ list n k₀ text k = (k ≤ n) × (text ≡ sets text₀ 0 (each k (lineOf list)))
+
+abbrev μ-loop : tie.MeasureT-loop
+μ-loop text₀ list n k₀ text k = n - k
+
+loop-holds : tie.Need-loop-holds Inv-loop μ-loop
+unfolding each
+loop-holds c = (omega arith, refl)
+
+mul-put : tie.Need-mul-put Inv-loop μ-loop
+mul-put c = search needs
+
+line-of-requires : tie.Need-line-of-requires Inv-loop μ-loop
+line-of-requires c κs = search needs
+
+slice-aggregate-put : tie.Need-slice-aggregate-put Inv-loop μ-loop
+slice-aggregate-put c = search needs
+
+put-requires : tie.Need-put-requires Inv-loop μ-loop
+put-requires c κs = rw (c .before .before .before .before .loop .inv .1, length-sets) (search needs)
+
+add-k : tie.Need-add-k Inv-loop μ-loop
+add-k c = search needs
+
+loop-less : tie.Need-loop-less Inv-loop μ-loop
+loop-less c = search needs
+
+loop-again : tie.Need-loop-again Inv-loop μ-loop
+loop-again c =
+    let list = now (c .before .before .before .before .before .before .before .before .before .before .args .list) in
+    let k = c .before .before .before .before .before .before .before .loop .k in
+    (omega arith, rw (c .before .before .put .ensures, c .before .before .before .before .line-of .ensures, c .before .before .before .before .before .before .before .loop .inv .1, add-one k) (each-more (lineOf list) 12 (line-length list) k 0 _ _ (omega arith)))
+
+same-length : tie.Need-same-length Inv-loop μ-loop
+same-length c = rw (c .before .loop .inv .1) (rw length-sets)
+
+returns : tie.Need-returns Inv-loop μ-loop
+returns c =
+    let e : c .before .loop .k ≡ c .before .before .before .before .args .n = omega arith in
+    rw (c .before .loop .inv .1, e)
+
+pub put-accesses-spec : {M : Type 1} → statement M
+put-accesses-spec =
+    tie.close
+    (tie.spec
+    Inv-loop
+    μ-loop
+    loop-holds
+    mul-put
+    line-of-requires
+    slice-aggregate-put
+    put-requires
+    add-k
+    loop-less
+    loop-again
+    same-length
+    returns)

@@ -1,0 +1,79 @@
+use lib.ListN.{getD}
+use Rattle.text.specs.Text.{each, hex}
+use Rattle.text.proofs.Laws.{each-more}
+use Prim.Native.Nat.{_-_, _≤_}
+use native.Mathlib.Numerals.{add-one}
+use native.Mathlib.Omega.{arith}
+use mathlib.Core.Path.{_≡_, refl}
+use borrow.Author.Needs.{needs}
+use denote.Ref.{now}
+use lib.Seq.{sets, length-sets}
+use Rattle.text.proofs.put_bytes.Statement.{statement}
+use Rattle.text.proofs.put_bytes.Tie as tie
+
+abbrev Inv-loop : tie.InvT-loop
+Inv-loop text₀ at state k₀ text k = (k ≤ 16) × (text ≡ sets text₀ at (each k (λ j. hex (getD state j 0))))
+
+abbrev μ-loop : tie.MeasureT-loop
+μ-loop text₀ at state k₀ text k = 16 - k
+
+loop-holds : tie.Need-loop-holds Inv-loop μ-loop
+unfolding each
+loop-holds c = (omega arith, refl)
+
+mul-put : tie.Need-mul-put Inv-loop μ-loop
+mul-put c = search needs
+
+add-put : tie.Need-add-put Inv-loop μ-loop
+add-put c = search needs
+
+shared-slice-read-hex : tie.Need-shared-slice-read-hex Inv-loop μ-loop
+shared-slice-read-hex c = search needs
+
+hex-requires : tie.Need-hex-requires Inv-loop μ-loop
+hex-requires c κs = search needs
+
+slice-aggregate-put : tie.Need-slice-aggregate-put Inv-loop μ-loop
+slice-aggregate-put c = search needs
+
+put-requires : tie.Need-put-requires Inv-loop μ-loop
+put-requires c κs = rw (c .before .before .before .before .before .loop .inv .1, length-sets) (search needs)
+
+add-k : tie.Need-add-k Inv-loop μ-loop
+add-k c = search needs
+
+loop-less : tie.Need-loop-less Inv-loop μ-loop
+loop-less c = search needs
+
+loop-again : tie.Need-loop-again Inv-loop μ-loop
+loop-again c =
+    let state = now (c .before .before .before .before .before .before .before .before .before .before .before .args .state) in
+    let k = c .before .before .before .before .before .before .before .before .loop .k in
+    (omega arith, rw (c .before .before .put .ensures, c .before .before .before .before .hex .ensures, c .before .before .before .before .before .before .before .before .loop .inv .1, add-one) (each-more (λ j. hex (getD state j 0)) 2 (λ j. refl) k _ _ _ (omega arith)))
+
+same-length : tie.Need-same-length Inv-loop μ-loop
+same-length c = rw (c .before .loop .inv .1) (rw length-sets)
+
+returns : tie.Need-returns Inv-loop μ-loop
+returns c =
+    let e : c .before .loop .k ≡ 16 = omega arith in
+    rw (c .before .loop .inv .1, e)
+
+pub put-bytes-spec : {M : Type 1} → statement M
+put-bytes-spec =
+    tie.close
+    (tie.spec
+    Inv-loop
+    μ-loop
+    loop-holds
+    mul-put
+    add-put
+    shared-slice-read-hex
+    hex-requires
+    slice-aggregate-put
+    put-requires
+    add-k
+    loop-less
+    loop-again
+    same-length
+    returns)

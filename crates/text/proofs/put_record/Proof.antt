@@ -1,0 +1,21 @@
+use Rattle.text.proofs.Laws.{record-put}
+use borrow.Author.Needs.{needs}
+use Rattle.text.proofs.put_record.Statement.{statement}
+use Rattle.text.proofs.put_record.Tie as tie
+
+returns : tie.Need-returns
+returns c = rw (c .before .before .put2 .ensures, c .before .before .before .before .before .before .before .put-bytes .ensures, c .before .before .before .before .before .before .before .before .before .before .before .put .ensures) (record-put _ _ _)
+
+pub put-record-spec : {M : Type 1} → statement M
+put-record-spec =
+    tie.close
+    (tie.spec
+    (λ c. search needs)
+    (λ c κs. search needs)
+    (λ c. search needs)
+    (λ c κs. search needs)
+    (λ c. search needs)
+    (λ c. search needs)
+    (λ c κs. search needs)
+    (λ c. search needs)
+    returns)

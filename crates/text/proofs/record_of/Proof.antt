@@ -1,0 +1,33 @@
+use denote.Ref.{now}
+use Rattle.text.specs.Text.{each}
+use Rattle.text.proofs.Laws.{take-each}
+use mathlib.Core.Path.{sym}
+use borrow.Author.Needs.{needs}
+use Rattle.text.proofs.record_of.Statement.{statement}
+use Rattle.text.proofs.record_of.Tie as tie
+
+returns : tie.Need-returns
+unfolding each
+returns c = sym (take-each (now (c .before .before .before .before .before .before .before .before .before .before .before .before .before .before .before .before .args .input)) 16 (c .before .before .before .before .before .before .before .before .before .before .before .before .before .before .before .before .pre))
+
+pub record-of-spec : {M : Type 1} → statement M
+record-of-spec =
+    tie.close
+    (tie.spec
+    (λ c. search needs)
+    (λ c. search needs)
+    (λ c. search needs)
+    (λ c. search needs)
+    (λ c. search needs)
+    (λ c. search needs)
+    (λ c. search needs)
+    (λ c. search needs)
+    (λ c. search needs)
+    (λ c. search needs)
+    (λ c. search needs)
+    (λ c. search needs)
+    (λ c. search needs)
+    (λ c. search needs)
+    (λ c. search needs)
+    (λ c. search needs)
+    returns)

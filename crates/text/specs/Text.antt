@@ -1,0 +1,93 @@
+-- The step printer: what is printed for an input, byte by byte.
+use Prim.Native.Nat.{ℕ, zero, suc, _+_, _-_, _*_, _/_, _%_}
+use mathlib.Core.List.{List, [], _∷_, _++_}
+use lib.Dec.{ltb, leb, eqb}
+use lib.ListN.{length, take, drop, replicate}
+use Rattle.rules.specs.declared.Refusal.{Refusal}
+use Rattle.rules.specs.declared.Refusal.the-variants.{RecordLength, Malformed, ImageLength}
+use Rattle.rules.specs.declared.StepAnswer.{StepAnswer}
+use Rattle.rules.specs.declared.StepAnswer.the-variants.{Stepped, Refused}
+use Rattle.rules.specs.Basics.{if_then_else_, at}
+use Rattle.rules.specs.Bus.{Memory, images}
+use Rattle.rules.specs.Record.{wellFormed}
+use Rattle.rules.specs.Answers.{Test, _unless_, tested, numbersOf}
+use Rattle.rules.specs.Step.{Outcome, step}
+
+-- characters
+abbrev pub space : ℕ
+space = 0x20
+
+abbrev pub newline : ℕ
+newline = 0x0A
+
+-- 0 to 9, A to F
+abbrev pub digit : ℕ → ℕ
+digit n = if ltb n 10 then 0x30 + n else 0x41 + (n - 10)
+
+-- a byte in hexadecimal
+abbrev pub hex : ℕ → List ℕ
+hex v = digit (v / 16) ∷ digit (v % 16) ∷ []
+
+-- a number below 100 in decimal
+abbrev pub decimal : ℕ → List ℕ
+decimal n = if ltb n 10 then digit n ∷ [] else digit (n / 10) ∷ digit (n % 10) ∷ []
+
+-- f 0, f 1 and so on, n of them
+unfoldable pub each : ℕ → (ℕ → List ℕ) → List ℕ
+each zero f = []
+each (suc n) f = each n f ++ f n
+
+-- "0 read or 1 write"
+abbrev pub letter : ℕ → ℕ
+letter kind = if eqb kind 0 then 0x52 else 0x57
+
+-- "R or W, bank (one hexadecimal digit), address, value"
+unfoldable pub accessLine : ℕ → ℕ → ℕ → ℕ → ℕ → List ℕ
+accessLine kind bank high low value =
+    letter kind ∷ space ∷ digit (bank % 16) ∷ space ∷ hex high ++ hex low ++ space ∷ hex value ++ newline ∷ []
+
+-- that of access k of a list: "address low, high, selected bank before the modulo, value, 0 read or 1 write"
+abbrev pub lineOf : List ℕ → ℕ → List ℕ
+lineOf l k = let p = 8 * k in accessLine (at l (p + 4)) (at l (p + 2)) (at l (p + 1)) (at l p) (at l (p + 3))
+
+-- a letter and a number
+unfoldable pub numberLine : ℕ → ℕ → List ℕ
+numberLine letter n = letter ∷ space ∷ decimal n ++ newline ∷ []
+
+-- "then N and the count in decimal"
+abbrev pub countLine : ℕ → List ℕ
+countLine n = numberLine 0x4E n
+
+-- a record's bytes
+abbrev pub bytesText : List ℕ → List ℕ
+bytesText r = each 16 (λ k. hex (at r k))
+
+-- "then S and the new record"
+unfoldable pub recordLine : List ℕ → List ℕ
+recordLine r = 0x53 ∷ space ∷ bytesText r ++ newline ∷ []
+
+-- "A refusal prints only E and its number"
+abbrev pub refusalLine : Refusal → List ℕ
+refusalLine e = numberLine 0x45 (numbersOf e .number)
+
+-- what is printed of a step
+abbrev pub stepText : StepAnswer → List ℕ → List ℕ → List ℕ
+stepText (Stepped n) r l = each n (lineOf l) ++ countLine n ++ recordLine r
+stepText (Refused e) r l = refusalLine e
+
+-- An input of this many bytes: "record, lines, pins, image".
+module _ {M : Type 0} (memory : Memory M) (size : ℕ) (r : List ℕ) (lines pins : ℕ) (m : M) where
+  -- "an input under 16 bytes is 1, another wrong length 3, after 2"
+  abbrev pub inputTests : List Test
+  inputTests = RecordLength unless leb 16 size ∷ Malformed unless wellFormed r ∷ ImageLength unless eqb size 65554 ∷ []
+
+  -- one step, with room for its accesses
+  abbrev pub stepOf : Outcome StepAnswer M
+  stepOf = step memory r m lines pins (replicate 56 0)
+
+  unfoldable pub textOf : List ℕ
+  textOf = tested inputTests refusalLine (stepText (stepOf .answer) (stepOf .state) (stepOf .accesses))
+
+-- what is printed for an input
+abbrev pub printed : List ℕ → List ℕ
+printed i = textOf images (length i) (take 16 i) (at i 16) (at i 17) (drop 18 i)

@@ -1,0 +1,198 @@
+// The step printer's text.
+
+use rules::Refusal;
+use rules::StepAnswer;
+ghost use Prim.Native.Nat.{ℕ, _+_, _*_, _≤_, _<_};
+ghost use mathlib.Core.Path.{_≡_};
+ghost use lib.ListN.{length, take};
+ghost use lib.Seq.{sets};
+ghost use Rattle.rules.specs.Answers.{numbersOf};
+ghost use Rattle.text.specs.Text.{digit, hex, letter, each, accessLine, lineOf, numberLine, bytesText, recordLine, refusalLine, stepText};
+ghost use Rattle.text.specs.Print.{Shows, printout, printing};
+
+fn digit(n: u8) -> u8
+    requires { ⌜ n < 100 ⌝ }
+    ensures { λ r. ⌜ r ≡ digit n ⌝ }
+{
+    if n < 10 { b'0' + n } else { b'A' + (n - 10) }
+}
+
+fn hex(v: u8) -> [u8; 2]
+    ensures { λ r. ⌜ r ≡ hex v ⌝ }
+{
+    [digit(v / 16), digit(v % 16)]
+}
+
+fn letter(kind: u8) -> u8
+    ensures { λ r. ⌜ r ≡ letter kind ⌝ }
+{
+    if kind == 0 { b'R' } else { b'W' }
+}
+
+// "R or W, bank (one hexadecimal digit), address, value"
+fn access_line(kind: u8, bank: u8, high: u8, low: u8, value: u8) -> [u8; 12]
+    ensures { λ r. ⌜ r ≡ accessLine kind bank high low value ⌝ }
+{
+    [
+        letter(kind),
+        b' ',
+        digit(bank % 16),
+        b' ',
+        digit(high / 16),
+        digit(high % 16),
+        digit(low / 16),
+        digit(low % 16),
+        b' ',
+        digit(value / 16),
+        digit(value % 16),
+        b'\n',
+    ]
+}
+
+fn number_of(e: Refusal) -> u8
+    ensures { λ r. ⌜ r ≡ numbersOf e .number ⌝ }
+{
+    match e {
+        Refusal::RecordLength => 1,
+        Refusal::Malformed => 2,
+        Refusal::ImageLength => 3,
+        Refusal::Lines => 4,
+        Refusal::Room => 5,
+        Refusal::Undefined { pc: _, opcode: _ } => 6,
+        Refusal::ScriptLength => 7,
+        Refusal::FileLength => 8,
+        Refusal::Admission => 10,
+        Refusal::MapRecord(_) => 11,
+        Refusal::Vectors => 12,
+        Refusal::Place(_) => 13,
+        Refusal::StoreAddress(_) => 14,
+        Refusal::Stack(_) => 15,
+        Refusal::Successor(_) => 16,
+    }
+}
+
+// Puts a piece of text at a place.
+fn put(text: &mut [u8], at: usize, piece: &[u8])
+    requires { ⌜ at + length (now piece) ≤ length (now text) ⌝ }
+    ensures { λ r. ⌜ now (text .exit) ≡ sets (now (text .entry)) at (now (piece .entry)) ⌝ }
+{
+    let mut k = 0;
+    while k < piece.len() {
+        text[at + k] = piece[k];
+        k += 1;
+    }
+}
+
+// A letter and a number in decimal; answers where the line ends.
+fn put_number(text: &mut [u8], at: usize, letter: u8, n: u8) -> usize
+    requires { ⌜ at + 5 ≤ length (now text) ⌝ }
+    ensures { λ r. ⌜ (r ≡ at + length (numberLine letter n)) × (now (text .exit) ≡ sets (now (text .entry)) at (numberLine letter n)) ⌝ }
+{
+    if n < 10 {
+        put(text, at, &[letter, b' ', digit(n), b'\n']);
+        return at + 4;
+    }
+    put(text, at, &[letter, b' ', digit(n / 10), digit(n % 10), b'\n']);
+    at + 5
+}
+
+// The record, which stands at the input's front.
+fn record_of(input: &[u8]) -> [u8; 16]
+    requires { ⌜ 16 ≤ length (now input) ⌝ }
+    ensures { λ r. ⌜ r ≡ take 16 (now (input .entry)) ⌝ }
+{
+    [
+        input[0], input[1], input[2], input[3], input[4], input[5], input[6], input[7],
+        input[8], input[9], input[10], input[11], input[12], input[13], input[14], input[15],
+    ]
+}
+
+// Access k of the list.
+fn line_of(list: &[u8], k: usize) -> [u8; 12]
+    requires { ⌜ 8 * k + 8 ≤ length (now list) ⌝ }
+    ensures { λ r. ⌜ r ≡ lineOf (now (list .entry)) k ⌝ }
+{
+    let p = 8 * k;
+    access_line(list[p + 4], list[p + 2], list[p + 1], list[p], list[p + 3])
+}
+
+fn put_accesses(text: &mut [u8], list: &[u8], n: usize)
+    requires { ⌜ (12 * n ≤ length (now text)) × (8 * n ≤ length (now list)) ⌝ }
+    ensures { λ r. ⌜ now (text .exit) ≡ sets (now (text .entry)) 0 (each n (lineOf (now (list .entry)))) ⌝ }
+{
+    let mut k = 0;
+    while k < n {
+        put(text, 12 * k, &line_of(list, k));
+        k += 1;
+    }
+}
+
+fn put_bytes(text: &mut [u8], at: usize, state: &[u8])
+    requires { ⌜ (at + 32 ≤ length (now text)) × (length (now state) ≡ 16) ⌝ }
+    ensures { λ r. ⌜ now (text .exit) ≡ sets (now (text .entry)) at (bytesText (now (state .entry))) ⌝ }
+{
+    let mut k = 0;
+    while k < 16 {
+        put(text, at + 2 * k, &hex(state[k]));
+        k += 1;
+    }
+}
+
+// "then S and the new record"
+fn put_record(text: &mut [u8], at: usize, state: &[u8])
+    requires { ⌜ (at + 35 ≤ length (now text)) × (length (now state) ≡ 16) ⌝ }
+    ensures { λ r. ⌜ now (text .exit) ≡ sets (now (text .entry)) at (recordLine (now (state .entry))) ⌝ }
+{
+    put(text, at, b"S ");
+    put_bytes(text, at + 2, state);
+    put(text, at + 34, b"\n");
+}
+
+// "A refusal prints only E and its number"
+fn put_refusal(text: &mut [u8], e: Refusal) -> usize
+    requires { ⌜ 5 ≤ length (now text) ⌝ }
+    ensures { λ r. ⌜ Shows (refusalLine e) r (now (text .entry)) (now (text .exit)) ⌝ }
+{
+    put_number(text, 0, b'E', number_of(e))
+}
+
+fn put_step(text: &mut [u8], n: u8, state: &[u8], list: &[u8]) -> usize
+    requires { ⌜ ((n ≤ 7) × (123 ≤ length (now text))) × ((length (now state) ≡ 16) × (56 ≤ length (now list))) ⌝ }
+    ensures { λ r. ⌜ Shows (stepText (StepAnswer.Stepped n) (now (state .entry)) (now (list .entry))) r (now (text .entry)) (now (text .exit)) ⌝ }
+{
+    put_accesses(text, list, n as usize);
+    let at = put_number(text, 12 * n as usize, b'N', n);
+    put_record(text, at, state);
+    at + 35
+}
+
+fn put_answer(text: &mut [u8], a: StepAnswer, state: &[u8], list: &[u8]) -> usize
+    requires { ⌜ (((n : ℕ) → a ≡ StepAnswer.Stepped n → n ≤ 7) × (123 ≤ length (now text))) × ((length (now state) ≡ 16) × (56 ≤ length (now list))) ⌝ }
+    ensures { λ r. ⌜ Shows (stepText a (now (state .entry)) (now (list .entry))) r (now (text .entry)) (now (text .exit)) ⌝ }
+{
+    match a {
+        StepAnswer::Stepped(n) => put_step(text, n, state, list),
+        StepAnswer::Refused(e) => put_refusal(text, e),
+    }
+}
+
+// The text of one step: "standard input is record, lines, pins, image".
+pub fn print(input: &mut [u8], text: &mut [u8; 123]) -> usize
+    ensures { λ r. ⌜ printout r (now (input .exit)) (now (text .exit)) ≡ printing (now (input .entry)) (now (text .entry)) ⌝ }
+{
+    if input.len() < 16 {
+        return put_refusal(text, Refusal::RecordLength);
+    }
+    let mut state = record_of(input);
+    if !checks::well_formed(&state) {
+        return put_refusal(text, Refusal::Malformed);
+    }
+    if input.len() != 65554 {
+        return put_refusal(text, Refusal::ImageLength);
+    }
+    let lines = input[16];
+    let pins = input[17];
+    let mut list = [0; 56];
+    let a = step::step(&mut state, &mut input[18..], lines, pins, &mut list);
+    put_answer(text, a, &state, &list)
+}
