@@ -1,2 +1,3 @@
 pub mod Laws
 pub mod Shown
+pub mod Printing

@@ -11,7 +11,7 @@ use lib.Seq.{sets, sets-eq}
 use Rattle.rules.specs.declared.StepAnswer.the-variants.{Stepped}
 use Rattle.rules.specs.Basics.{if_then_else_}
 use Rattle.rules.specs.Step.{front}
-use Rattle.text.specs.Text.{newline, digit, each, lineOf, numberLine, countLine, recordLine, stepText}
+use Rattle.text.specs.Text.{space, newline, digit, each, lineOf, numberLine, countLine, recordLine, stepText}
 use Rattle.text.specs.Print.{Shows}
 use Rattle.text.proofs.Laws.{sets-append, each-length, line-length, record-length}
 
@@ -23,7 +23,7 @@ number-most : (letter n : ℕ) → length (numberLine letter n) ≤ 5
 unfolding numberLine
 number-most letter n = go (ltb n 10)
   where
-    go : (b : Bool) → 2 + length ((if b then digit n ∷ [] else digit (n / 10) ∷ digit (n % 10) ∷ []) ++ newline ∷ []) ≤ 5
+    go : (b : Bool) → length (letter ∷ space ∷ (if b then digit n ∷ [] else digit (n / 10) ∷ digit (n % 10) ∷ []) ++ newline ∷ []) ≤ 5
     go true = omega arith
     go false = omega arith
 
@@ -49,6 +49,6 @@ step-shown n p r l t u v w few room a e b d =
     record {
       count = sym size;
       text =
-        (rw (d, b, a, i, j, ← sets-append lines (countLine n) t 0) (sym (sets-append (lines ++ countLine n) (recordLine r) t 0)))
-        ∙ sets-front (lines ++ countLine n ++ recordLine r) t (omega (arith, count-length n few));
+          (rw (d, b, a, i, j, ← sets-append lines (countLine n) t 0) (sym (sets-append (lines ++ countLine n) (recordLine r) t 0)))
+          ∙ sets-front (lines ++ countLine n ++ recordLine r) t (omega (arith, count-length n few));
     }

@@ -92,7 +92,11 @@ fn put_number(text: &mut [u8], at: usize, letter: u8, n: u8) -> usize
         put(text, at, &[letter, b' ', digit(n), b'\n']);
         return at + 4;
     }
-    put(text, at, &[letter, b' ', digit(n / 10), digit(n % 10), b'\n']);
+    put(
+        text,
+        at,
+        &[letter, b' ', digit(n / 10), digit(n % 10), b'\n'],
+    );
     at + 5
 }
 
@@ -102,8 +106,22 @@ fn record_of(input: &[u8]) -> [u8; 16]
     ensures { λ r. ⌜ r ≡ take 16 (now (input .entry)) ⌝ }
 {
     [
-        input[0], input[1], input[2], input[3], input[4], input[5], input[6], input[7],
-        input[8], input[9], input[10], input[11], input[12], input[13], input[14], input[15],
+        input[0],
+        input[1],
+        input[2],
+        input[3],
+        input[4],
+        input[5],
+        input[6],
+        input[7],
+        input[8],
+        input[9],
+        input[10],
+        input[11],
+        input[12],
+        input[13],
+        input[14],
+        input[15],
     ]
 }
 

@@ -1,0 +1,57 @@
+-- What is printed where the input is refused, and where a step was made.
+use Prim.Native.Nat.{ℕ, _-_, _≤_, _<_}
+use native.Mathlib.Omega.{arith}
+use native.Mathlib.Nat.{le-refl}
+use mathlib.Core.Path.{_≡_, sym, _∙_}
+use mathlib.Core.Bool.{true, false}
+use mathlib.Core.List.{List, [], _++_, append-nil}
+use borrow.Author.Tests.{lt-leb, le-leb, eq-eqb, ne-eqb}
+use borrow.Rule.Slice.PartMut.{putMid}
+use lib.ListN.{length, take, drop, length-drop, drop-of-length-le, replicate}
+use lib.Seq.{take-length}
+use Rattle.rules.specs.declared.Refusal.the-variants.{RecordLength, Malformed, ImageLength}
+use Rattle.rules.specs.declared.StepAnswer.{StepAnswer}
+use Rattle.rules.specs.declared.StepAnswer.the-variants.{Stepped}
+use Rattle.rules.specs.Basics.{at}
+use Rattle.rules.specs.Bus.{images}
+use Rattle.rules.specs.Record.{wellFormed}
+use Rattle.rules.specs.Step.{step}
+use Rattle.rules.proofs.Steps.{lawful}
+use Rattle.step.specs.Parts.{left}
+use Rattle.text.specs.Text.{textOf, refusalLine, stepText}
+use Rattle.text.specs.Print.{Shows, printout, used, printing}
+
+-- the tail of a buffer from p on, as it is lent and as it comes back
+pub tail-lent : (p : ℕ) (i : List ℕ) → take (length i - p) (drop p i) ≡ drop p i
+tail-lent p i = rw (← length-drop p i) (take-length (drop p i))
+
+pub tail-back : (p : ℕ) (i m : List ℕ) → putMid p (length i - p) i m ≡ take p i ++ m
+tail-back p i m =
+    let l : length (drop p i) ≤ length i - p = rw length-drop (le-refl (length i - p)) in
+    let e : drop (length i - p) (drop p i) ≡ [] = drop-of-length-le (drop p i) l in
+    rw (e, append-nil)
+
+module _ (i t t′ : List ℕ) (n : ℕ) where
+  pub print-short : length i < 16 → Shows (refusalLine RecordLength) n t t′ → printout n i t′ ≡ printing i t
+  unfolding textOf used
+  print-short h s = rw (lt-leb 16 (length i) h, s .count, s .text)
+
+  module _ (room : 16 ≤ length i) where
+    pub print-malformed : wellFormed (take 16 i) ≡ false → Shows (refusalLine Malformed) n t t′ → printout n i t′ ≡ printing i t
+    unfolding textOf used
+    print-malformed h s = rw (le-leb 16 (length i) room, h, s .count, s .text)
+
+    module _ (well : wellFormed (take 16 i) ≡ true) where
+      pub print-length : (length i ≡ 65554 → ⊥) → Shows (refusalLine ImageLength) n t t′ → printout n i t′ ≡ printing i t
+      unfolding textOf used
+      print-length h s = rw (le-leb 16 (length i) room, well, ne-eqb (length i) 65554 h, s .count, s .text)
+
+      pub print-step : (a : StepAnswer) (r m l : List ℕ) → length i ≡ 65554 →
+          left a r m l ≡ step images (take 16 i) (drop 18 i) (at i 16) (at i 17) (replicate 56 0) → Shows (stepText a r l) n t t′ →
+          printout n (take 18 i ++ m) t′ ≡ printing i t
+      unfolding textOf used
+      print-step a r m l h e s = rw (le-leb 16 (length i) room, well, eq-eqb (length i) 65554 h, ← e, s .count, s .text)
+
+-- a step answers at most 7
+pub few : (a : StepAnswer) (r m l r′ m′ l′ : List ℕ) (lines pins : ℕ) → left a r′ m′ l′ ≡ step images r m lines pins l → (n : ℕ) → a ≡ Stepped n → n ≤ 7
+few a r m l r′ m′ l′ lines pins e n h = lawful images r m lines pins l .moves n ((λ j. sym e j .answer) ∙ h) .most
