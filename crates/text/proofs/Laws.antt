@@ -1,12 +1,13 @@
 -- Texts put one behind the other.
 use Prim.Native.Nat.{ℕ, zero, suc, _+_, _*_, _≤_, _<_}
 use native.Mathlib.Omega.{arith}
+use Prim.Native.Char.{code}
 use mathlib.Core.Path.{_≡_, refl, sym, ap, _∙_}
 use mathlib.Core.List.{List, [], _∷_, _++_}
 use lib.ListN.{length, take, set, length-append}
 use lib.Seq.{sets, take-suc, length-take-le}
 use Rattle.rules.specs.Basics.{at}
-use Rattle.text.specs.Text.{space, newline, hex, each, accessLine, lineOf, bytesText, recordLine}
+use Rattle.text.specs.Text.{hex, each, accessLine, lineOf, bytesText, recordLine}
 
 pub sets-append : (xs ys l : List ℕ) (p : ℕ) → sets l p (xs ++ ys) ≡ sets (sets l p xs) (p + length xs) ys
 sets-append [] ys l p = let e : p + 0 ≡ p = omega arith in rw e
@@ -42,12 +43,12 @@ unfolding recordLine
 record-length r = rw (length-append, bytes-length r)
 
 -- a record's line is put in three pieces
-pub record-put : (r t : List ℕ) (p : ℕ) → sets (sets (sets t p (0x53 ∷ space ∷ [])) (p + 2) (bytesText r)) (p + 34) (newline ∷ []) ≡ sets t p (recordLine r)
+pub record-put : (r t : List ℕ) (p : ℕ) → sets (sets (sets t p (code "S" ∷ code " " ∷ [])) (p + 2) (bytesText r)) (p + 34) (code "\n" ∷ []) ≡ sets t p (recordLine r)
 unfolding recordLine
 record-put r t p =
     let e : p + 2 ≡ suc (suc p) = omega arith in
     let q : p + 34 ≡ suc (suc p) + length (bytesText r) = omega (arith, bytes-length r) in
-    rw (e, q) (sym (sets-append (bytesText r) (newline ∷ []) (set (set t p 0x53) (suc p) space) (suc (suc p))))
+    rw (e, q) (sym (sets-append (bytesText r) (code "\n" ∷ []) (set (set t p (code "S")) (suc p) (code " ")) (suc (suc p))))
 
 -- the first elements of a list, one by one
 pub take-each : (l : List ℕ) (n : ℕ) → n ≤ length l → take n l ≡ each n (λ k. at l k ∷ [])

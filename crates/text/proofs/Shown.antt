@@ -1,6 +1,7 @@
 -- What is put piece by piece stands at the buffer's front.
 use Prim.Native.Nat.{ℕ, _+_, _*_, _/_, _%_, _≤_}
 use native.Mathlib.Omega.{arith}
+use Prim.Native.Char.{code}
 use mathlib.Core.Path.{_≡_, refl, sym, _∙_}
 use mathlib.Core.Bool.{Bool, true, false}
 use mathlib.Core.List.{List, [], _∷_, _++_}
@@ -11,7 +12,7 @@ use lib.Seq.{sets, sets-eq}
 use Rattle.rules.specs.declared.StepAnswer.the-variants.{Stepped}
 use Rattle.rules.specs.Basics.{if_then_else_}
 use Rattle.rules.specs.Step.{front}
-use Rattle.text.specs.Text.{space, newline, digit, each, lineOf, numberLine, countLine, recordLine, stepText}
+use Rattle.text.specs.Text.{digit, each, lineOf, numberLine, countLine, recordLine, stepText}
 use Rattle.text.specs.Print.{Shows}
 use Rattle.text.proofs.Laws.{sets-append, each-length, line-length, record-length}
 
@@ -23,7 +24,7 @@ number-most : (letter n : ℕ) → length (numberLine letter n) ≤ 5
 unfolding numberLine
 number-most letter n = go (ltb n 10)
   where
-    go : (b : Bool) → length (letter ∷ space ∷ (if b then digit n ∷ [] else digit (n / 10) ∷ digit (n % 10) ∷ []) ++ newline ∷ []) ≤ 5
+    go : (b : Bool) → length (letter ∷ code " " ∷ (if b then digit n ∷ [] else digit (n / 10) ∷ digit (n % 10) ∷ []) ++ code "\n" ∷ []) ≤ 5
     go true = omega arith
     go false = omega arith
 

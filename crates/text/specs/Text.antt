@@ -1,5 +1,6 @@
 -- The step printer: what is printed for an input, byte by byte.
 use Prim.Native.Nat.{ℕ, zero, suc, _+_, _-_, _*_, _/_, _%_}
+use Prim.Native.Char.{code}
 use mathlib.Core.List.{List, [], _∷_, _++_}
 use lib.Dec.{ltb, leb, eqb}
 use lib.ListN.{length, take, drop, replicate}
@@ -13,16 +14,9 @@ use Rattle.rules.specs.Record.{wellFormed}
 use Rattle.rules.specs.Answers.{Test, _unless_, tested, numbersOf}
 use Rattle.rules.specs.Step.{Outcome, step}
 
--- characters
-abbrev pub space : ℕ
-space = 0x20
-
-abbrev pub newline : ℕ
-newline = 0x0A
-
 -- 0 to 9, A to F
 abbrev pub digit : ℕ → ℕ
-digit n = if ltb n 10 then 0x30 + n else 0x41 + (n - 10)
+digit n = if ltb n 10 then code "0" + n else code "A" + (n - 10)
 
 -- a byte in hexadecimal
 abbrev pub hex : ℕ → List ℕ
@@ -39,12 +33,12 @@ each (suc n) f = each n f ++ f n
 
 -- "0 read or 1 write"
 abbrev pub letter : ℕ → ℕ
-letter kind = if eqb kind 0 then 0x52 else 0x57
+letter kind = if eqb kind 0 then code "R" else code "W"
 
 -- "R or W, bank (one hexadecimal digit), address, value"
 unfoldable pub accessLine : ℕ → ℕ → ℕ → ℕ → ℕ → List ℕ
 accessLine kind bank high low value =
-    letter kind ∷ space ∷ digit (bank % 16) ∷ space ∷ hex high ++ hex low ++ space ∷ hex value ++ newline ∷ []
+    letter kind ∷ code " " ∷ digit (bank % 16) ∷ code " " ∷ hex high ++ hex low ++ code " " ∷ hex value ++ code "\n" ∷ []
 
 -- that of access k of a list: "address low, high, selected bank before the modulo, value, 0 read or 1 write"
 abbrev pub lineOf : List ℕ → ℕ → List ℕ
@@ -52,11 +46,11 @@ lineOf l k = let p = 8 * k in accessLine (at l (p + 4)) (at l (p + 2)) (at l (p 
 
 -- a letter and a number
 unfoldable pub numberLine : ℕ → ℕ → List ℕ
-numberLine letter n = letter ∷ space ∷ decimal n ++ newline ∷ []
+numberLine letter n = letter ∷ code " " ∷ decimal n ++ code "\n" ∷ []
 
 -- "then N and the count in decimal"
 abbrev pub countLine : ℕ → List ℕ
-countLine n = numberLine 0x4E n
+countLine n = numberLine (code "N") n
 
 -- a record's bytes
 abbrev pub bytesText : List ℕ → List ℕ
@@ -64,11 +58,11 @@ bytesText r = each 16 (λ k. hex (at r k))
 
 -- "then S and the new record"
 unfoldable pub recordLine : List ℕ → List ℕ
-recordLine r = 0x53 ∷ space ∷ bytesText r ++ newline ∷ []
+recordLine r = code "S" ∷ code " " ∷ bytesText r ++ code "\n" ∷ []
 
 -- "A refusal prints only E and its number"
 abbrev pub refusalLine : Refusal → List ℕ
-refusalLine e = numberLine 0x45 (numbersOf e .number)
+refusalLine e = numberLine (code "E") (numbersOf e .number)
 
 -- what is printed of a step
 abbrev pub stepText : StepAnswer → List ℕ → List ℕ → List ℕ
