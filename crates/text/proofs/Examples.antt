@@ -80,7 +80,7 @@ pub printed-parts : (r m : List ℕ) (lines pins : ℕ) → length r ≡ 16 → 
 printed-parts r m lines pins e =
     let i = r ++ lines ∷ pins ∷ m in
     let behind : (k n : ℕ) → length r + k ≡ n → at i n ≡ at (lines ∷ pins ∷ m) k =
-        λ k n q. subst (λ (x : ℕ). at i x ≡ at (lines ∷ pins ∷ m) k) q (getD-append-add r (lines ∷ pins ∷ m) k 0) in
+    λ k n q. subst (λ (x : ℕ). at i x ≡ at (lines ∷ pins ∷ m) k) q (getD-append-add r (lines ∷ pins ∷ m) k 0) in
     let two : length r + 2 ≡ 18 = omega arith in
     let rest : drop 18 i ≡ m = subst (λ (x : ℕ). drop x i ≡ m) two (drop-append-add r (lines ∷ pins ∷ m) 2) in
     let size : length i ≡ length m + 18 = rw (length-append r (lines ∷ pins ∷ m)) (omega arith) in

@@ -7,7 +7,7 @@ use mathlib.Core.Bool.{true, false}
 use mathlib.Core.List.{List, [], _++_, append-nil}
 use borrow.Author.Tests.{lt-leb, le-leb, eq-eqb, ne-eqb}
 use borrow.Rule.Slice.PartMut.{putMid}
-use lib.ListN.{length, take, drop, length-drop, drop-of-length-le, replicate}
+use lib.ListN.{length, take, drop, length-append, length-drop, drop-of-length-le, replicate}
 use lib.Seq.{take-length}
 use Rattle.rules.specs.declared.Refusal.the-variants.{RecordLength, Malformed, ImageLength}
 use Rattle.rules.specs.declared.StepAnswer.{StepAnswer}
@@ -15,10 +15,10 @@ use Rattle.rules.specs.declared.StepAnswer.the-variants.{Stepped}
 use Rattle.rules.specs.Basics.{at}
 use Rattle.rules.specs.Bus.{images}
 use Rattle.rules.specs.Record.{wellFormed}
-use Rattle.rules.specs.Step.{step}
+use Rattle.rules.specs.Step.{front, step}
 use Rattle.rules.proofs.Steps.{lawful}
 use Rattle.step.specs.Parts.{left}
-use Rattle.text.specs.Text.{textOf, refusalLine, stepText}
+use Rattle.text.specs.Text.{textOf, refusalLine, stepText, printed}
 use Rattle.text.specs.Print.{Shows, printout, used, printing}
 
 -- the tail of a buffer from p on, as it is lent and as it comes back
@@ -55,3 +55,10 @@ module _ (i t t′ : List ℕ) (n : ℕ) where
 -- a step answers at most 7
 pub few : (a : StepAnswer) (r m l r′ m′ l′ : List ℕ) (lines pins : ℕ) → left a r′ m′ l′ ≡ step images r m lines pins l → (n : ℕ) → a ≡ Stepped n → n ≤ 7
 few a r m l r′ m′ l′ lines pins e n h = lawful images r m lines pins l .moves n ((λ j. sym e j .answer) ∙ h) .most
+
+-- the text lies in its buffer
+pub within : (n : ℕ) (i i′ t t′ : List ℕ) → printout n i′ t′ ≡ printing i t → n ≤ length t′
+within n i i′ t t′ e =
+    let count : n ≡ length (printed i) = λ j. e j .count in
+    let size : length t′ ≡ length (front (printed i) t) = λ j. length (e j .text) in
+    omega (arith, simp length-append at size)
