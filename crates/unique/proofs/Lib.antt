@@ -21,4 +21,5 @@ pub mod State
 pub mod Step
 pub mod Sums
 pub mod Table
+pub mod Text
 pub mod Wiring
