@@ -25,8 +25,7 @@ printout n i t = record { count = n; input = i; text = t }
 -- the input with its image as the step leaves it
 unfoldable pub used : List ℕ → List ℕ
 used i =
-    tested (inputTests images (length i) (take 16 i) (at i 16) (at i 17) (drop 18 i)) (λ e. i)
-    (take 18 i ++ stepOf images (length i) (take 16 i) (at i 16) (at i 17) (drop 18 i) .image)
+    tested (inputTests (length i) (take 16 i)) (λ e. i) (take 18 i ++ stepOf images (take 16 i) (at i 16) (at i 17) (drop 18 i) .image)
 
 -- the text fills the buffer's front and later bytes stay
 abbrev pub printing : List ℕ → List ℕ → Printout

@@ -35,7 +35,7 @@ each (suc n) f = each n f ++ f n
 abbrev pub letter : ℕ → ℕ
 letter kind = if eqb kind 0 then code "R" else code "W"
 
--- "R or W, bank (one hexadecimal digit), address, value"
+-- "R or W, bank (one hexadecimal digit), address, value"; a bank is "four bits"
 unfoldable pub accessLine : ℕ → ℕ → ℕ → ℕ → ℕ → List ℕ
 accessLine kind bank high low value =
     letter kind ∷ code " " ∷ digit (bank % 16) ∷ code " " ∷ hex high ++ hex low ++ code " " ∷ hex value ++ code "\n" ∷ []
@@ -69,19 +69,20 @@ abbrev pub stepText : StepAnswer → List ℕ → List ℕ → List ℕ
 stepText (Stepped n) r l = each n (lineOf l) ++ countLine n ++ recordLine r
 stepText (Refused e) r l = refusalLine e
 
--- An input of this many bytes: "record, lines, pins, image".
-module _ {M : Type 0} (memory : Memory M) (size : ℕ) (r : List ℕ) (lines pins : ℕ) (m : M) where
-  -- "an input under 16 bytes is 1, another wrong length 3, after 2"
-  abbrev pub inputTests : List Test
-  inputTests = RecordLength unless leb 16 size ∷ Malformed unless wellFormed r ∷ ImageLength unless eqb size 65554 ∷ []
+-- "an input under 16 bytes is 1, another wrong length 3, after 2"
+abbrev pub inputTests : ℕ → List ℕ → List Test
+inputTests size r = RecordLength unless leb 16 size ∷ Malformed unless wellFormed r ∷ ImageLength unless eqb size 65554 ∷ []
 
+-- "record, lines, pins, image"
+module _ {M : Type 0} (memory : Memory M) (r : List ℕ) (lines pins : ℕ) (m : M) where
   -- one step, with room for its accesses
   abbrev pub stepOf : Outcome StepAnswer M
   stepOf = step memory r m lines pins (replicate 56 0)
 
-  unfoldable pub textOf : List ℕ
-  textOf = tested inputTests refusalLine (stepText (stepOf .answer) (stepOf .state) (stepOf .accesses))
+  -- what is printed for an input of so many bytes
+  unfoldable pub textOf : ℕ → List ℕ
+  textOf size = tested (inputTests size r) refusalLine (stepText (stepOf .answer) (stepOf .state) (stepOf .accesses))
 
 -- what is printed for an input
 abbrev pub printed : List ℕ → List ℕ
-printed i = textOf images (length i) (take 16 i) (at i 16) (at i 17) (drop 18 i)
+printed i = textOf images (take 16 i) (at i 16) (at i 17) (drop 18 i) (length i)

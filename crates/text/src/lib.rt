@@ -1,4 +1,4 @@
-// The step printer's text.
+// The step printer's text: what is printed for an input, "record, lines, pins, image".
 
 use rules::Refusal;
 use rules::StepAnswer;
@@ -10,6 +10,7 @@ ghost use Rattle.rules.specs.Answers.{numbersOf};
 ghost use Rattle.text.specs.Text.{digit, hex, letter, each, accessLine, lineOf, numberLine, bytesText, recordLine, refusalLine, stepText};
 ghost use Rattle.text.specs.Print.{Shows, printout, printing};
 
+// 0 to 9, A to F.
 fn digit(n: u8) -> u8
     requires { ⌜ n < 100 ⌝ }
     ensures { λ r. ⌜ r ≡ digit n ⌝ }
@@ -194,7 +195,8 @@ fn put_answer(text: &mut [u8], a: StepAnswer, state: &[u8], list: &[u8]) -> usiz
     }
 }
 
-// The text of one step: "standard input is record, lines, pins, image".
+// Puts the text for an input at the front of a buffer and answers its length. At most 123 bytes: seven accesses, the count, the record.
+// The input's image is left as the step leaves it.
 pub fn print(input: &mut [u8], text: &mut [u8; 123]) -> usize
     ensures { λ r. ⌜ printout r (now (input .exit)) (now (text .exit)) ≡ printing (now (input .entry)) (now (text .entry)) ⌝ }
 {

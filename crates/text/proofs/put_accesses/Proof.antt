@@ -20,23 +20,8 @@ loop-holds : tie.Need-loop-holds Inv-loop μ-loop
 unfolding each
 loop-holds c = (omega arith, refl)
 
-mul-put : tie.Need-mul-put Inv-loop μ-loop
-mul-put c = search needs
-
-line-of-requires : tie.Need-line-of-requires Inv-loop μ-loop
-line-of-requires c κs = search needs
-
-slice-aggregate-put : tie.Need-slice-aggregate-put Inv-loop μ-loop
-slice-aggregate-put c = search needs
-
 put-requires : tie.Need-put-requires Inv-loop μ-loop
 put-requires c κs = rw (c .before .before .before .before .loop .inv .1, length-sets) (search needs)
-
-add-k : tie.Need-add-k Inv-loop μ-loop
-add-k c = search needs
-
-loop-less : tie.Need-loop-less Inv-loop μ-loop
-loop-less c = search needs
 
 loop-again : tie.Need-loop-again Inv-loop μ-loop
 loop-again c =
@@ -59,12 +44,12 @@ put-accesses-spec =
     Inv-loop
     μ-loop
     loop-holds
-    mul-put
-    line-of-requires
-    slice-aggregate-put
+    (λ c. search needs)
+    (λ c κs. search needs)
+    (λ c. search needs)
     put-requires
-    add-k
-    loop-less
+    (λ c. search needs)
+    (λ c. search needs)
     loop-again
     same-length
     returns)
