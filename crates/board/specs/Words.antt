@@ -1,9 +1,7 @@
 -- What the board is told: the word of an answer, and the buffers as they were left.
-use Prim.Native.Nat.{ℕ}
 use mathlib.Core.List.{List}
-use Rattle.rules.specs.declared.StepAnswer.{StepAnswer}
-use Rattle.rules.specs.Answers.{stepWord}
+use Prim.Native.Nat.{ℕ}
 use Rattle.rules.specs.Step.{Outcome}
 
-abbrev pub worded : Outcome StepAnswer (List ℕ) → Outcome ℕ (List ℕ)
-worded o = record { answer = stepWord (o .answer); state = o .state; image = o .image; accesses = o .accesses }
+abbrev pub worded : {A B : Type 0} → (A → B) → Outcome A (List ℕ) → Outcome B (List ℕ)
+worded f o = record { answer = f (o .answer); state = o .state; image = o .image; accesses = o .accesses }

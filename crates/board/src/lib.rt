@@ -1,11 +1,13 @@
 // The exported functions: numbers and byte slices in, one word out.
 
 use rules::Refusal;
+use rules::RunAnswer;
 use rules::StepAnswer;
 ghost use mathlib.Core.Path.{_≡_};
-ghost use Rattle.rules.specs.Answers.{packed, refusalWord, stepWord};
+ghost use Rattle.rules.specs.Answers.{packed, refusalWord, stepWord, runWords};
 ghost use Rattle.rules.specs.Bus.{images};
 ghost use Rattle.rules.specs.Step.{step};
+ghost use Rattle.rules.specs.Run.{runOf};
 ghost use Rattle.step.specs.Parts.{left};
 ghost use Rattle.board.specs.Words.{worded};
 
@@ -55,7 +57,46 @@ pub extern "C" fn wankitare_step(
     pins: u8,
     accesses: &mut [u8],
 ) -> u64
-    ensures { λ r. ⌜ left r (now (state .exit)) (now (image .exit)) (now (accesses .exit)) ≡ worded (step images (now (state .entry)) (now (image .entry)) lines pins (now (accesses .entry))) ⌝ }
+    ensures { λ r. ⌜ left r (now (state .exit)) (now (image .exit)) (now (accesses .exit)) ≡ worded stepWord (step images (now (state .entry)) (now (image .entry)) lines pins (now (accesses .entry))) ⌝ }
 {
-    step_word(step::step(state, image, lines, pins, accesses))
+    step_word(calls::step(state, image, lines, pins, accesses))
+}
+
+// The word, with the steps done and the accesses listed beside it.
+fn run_word(a: RunAnswer, steps: &mut u64, listed: &mut u64) -> u64
+    ensures { λ r. ⌜ record { word = r; steps = now (steps .exit); listed = now (listed .exit) } ≡ runWords a ⌝ }
+{
+    match a {
+        RunAnswer::Played {
+            steps: done,
+            listed: made,
+        } => {
+            *steps = done;
+            *listed = made;
+            0
+        }
+        RunAnswer::Stopped {
+            steps: done,
+            listed: made,
+            why,
+        } => {
+            *steps = done;
+            *listed = made;
+            refusal_word(why)
+        }
+    }
+}
+
+#[no_mangle]
+pub extern "C" fn wankitare_run(
+    state: &mut [u8],
+    image: &mut [u8],
+    script: &[u8],
+    accesses: &mut [u8],
+    steps: &mut u64,
+    listed: &mut u64,
+) -> u64
+    ensures { λ r. ⌜ left (record { word = r; steps = now (steps .exit); listed = now (listed .exit) }) (now (state .exit)) (now (image .exit)) (now (accesses .exit)) ≡ worded runWords (runOf images (now (state .entry)) (now (image .entry)) (now (script .entry)) (now (accesses .entry))) ⌝ }
+{
+    run_word(calls::run(state, accesses, image, script), steps, listed)
 }

@@ -9,15 +9,11 @@ use Rattle.rules.specs.declared.Bus.{Bus}
 use Rattle.rules.specs.Cycles.{Bank, Cycles, done, read, write, _>>=_, Access, run}
 use Rattle.rules.specs.Bus.{world, images, look, stored, selected, board, bytesOf, listOf}
 use Rattle.rules.proofs.Cycles.{run-bind}
+use Rattle.rules.proofs.Lists.{sets-append}
 use Rattle.rules.specs.declared.Cpu.{Cpu}
 use Rattle.rules.specs.declared.State.{State}
 use Rattle.rules.specs.Record.{recordOf}
 use Rattle.bus.specs.Goes.{Goes, Does, moved}
-
-sets-append : (xs ys l : List ℕ) (p : ℕ) → sets l p (xs ++ ys) ≡ sets (sets l p xs) (p + length xs) ys
-sets-append [] ys l p = let e : p + 0 ≡ p = omega arith in rw e
-sets-append (x ∷ xs) ys l p =
-    let e : p + suc (length xs) ≡ suc p + length xs = omega arith in rw e (sets-append xs ys (set l p x) (suc p))
 
 list-append : (xs ys : List Access) → listOf (xs ++ ys) ≡ listOf xs ++ listOf ys
 unfolding listOf

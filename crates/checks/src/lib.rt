@@ -1,10 +1,17 @@
-// What a step refuses before it looks at the program: "record malformed", "image length", lines and pins.
+// What a step refuses before it looks at the program: "record not 16 bytes", "record malformed", "image length", lines and pins.
 
+use rules::Refusal;
 ghost use mathlib.Core.Path.{_≡_};
 ghost use lib.ListN.{length};
 ghost use Rattle.rules.specs.Record.{wellFormed, flagsFit};
 ghost use Rattle.rules.specs.Step.{linesFit};
-ghost use Rattle.checks.specs.Checks.{restFits, banksFor};
+ghost use Rattle.checks.specs.Checks.{restFits, banksFor, fitOf};
+
+// Whether a record and an image fit: the image's banks, or why not.
+pub enum Checked {
+    Banks(u8),
+    Refused(Refusal),
+}
 
 // "P is N V 1 0 D I Z C": bit 5 is 1, bit 4 is 0.
 fn flags_fit(p: u8) -> bool
@@ -40,7 +47,7 @@ pub fn well_formed(state: &[u8]) -> bool
 }
 
 // "The image is 65,536 bytes; for the 6509, k banks of that size, k = 1, 2, 4, 8 or 16"; 0 for any other length.
-pub fn banks_of(part: u8, size: usize) -> u8
+fn banks_of(part: u8, size: usize) -> u8
     ensures { λ r. ⌜ r ≡ banksFor part size ⌝ }
 {
     if size == 65536 {
@@ -74,4 +81,21 @@ pub fn lines_fit(part: u8, lines: u8, pins: u8) -> bool
         return pins == 0;
     }
     false
+}
+
+// What step and run refuse first: 1, 2, 3 in order.
+pub fn fit(state: &[u8], image: &[u8]) -> Checked
+    ensures { λ r. ⌜ r ≡ fitOf (now (state .entry)) (now (image .entry)) ⌝ }
+{
+    if state.len() != 16 {
+        return Checked::Refused(Refusal::RecordLength);
+    }
+    if !well_formed(state) {
+        return Checked::Refused(Refusal::Malformed);
+    }
+    let banks = banks_of(state[0], image.len());
+    if banks == 0 {
+        return Checked::Refused(Refusal::ImageLength);
+    }
+    Checked::Banks(banks)
 }

@@ -1,5 +1,6 @@
 -- The laws of the definitions in specs/, and the examples that were computed.
 pub mod Tests
+pub mod Lists
 pub mod Cycles
 pub mod Table
 pub mod Lengths
@@ -12,3 +13,4 @@ pub mod Images
 pub mod Opened
 pub mod Examples
 pub mod Cases
+pub mod Texts

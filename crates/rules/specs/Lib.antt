@@ -25,3 +25,4 @@ pub mod Restart
 -- "Admission"
 pub mod Admission
 pub mod Safety
+pub mod Text

@@ -4,12 +4,13 @@ use native.Mathlib.Omega.{arith}
 use mathlib.Core.Path.{_≡_, refl, sym, _∙_}
 use mathlib.Core.Bool.{Bool, true, false, not, _||_, false≢true}
 use mathlib.Core.List.{List}
-use borrow.Author.Tests.{eqb-true, eq-eqb, ne-eqb, le-leb}
+use borrow.Author.Tests.{eqb-true, eq-eqb, ne-eqb, le-leb, lt-leb, not-true, not-false}
 use lib.Dec.{eqb}
 use lib.ListN.{length}
 use lib.Seq.{sets, sets-eq}
 use Rattle.rules.specs.declared.State.{State}
-use Rattle.rules.specs.declared.StepAnswer.the-variants.{Stepped}
+use Rattle.rules.specs.declared.Refusal.the-variants.{Lines, Room}
+use Rattle.rules.specs.declared.StepAnswer.the-variants.{Stepped, Refused}
 use Rattle.rules.specs.declared.Bus.{Bus}
 use Rattle.rules.specs.declared.Cpu.{Cpu}
 use Rattle.rules.specs.Cycles.{Cycles, Access}
@@ -19,15 +20,14 @@ use Rattle.table.proofs.Decodes.{defined-is}
 use Rattle.rules.specs.Interrupts.{Event, res, nmi, irq, execute, cyclesOf, interrupt}
 use Rattle.rules.specs.Bus.{is6502, is6508, is6509, images, listOf}
 use Rattle.rules.specs.Record.{stateOf, recordOf, wellFormed, partFits}
-use Rattle.rules.specs.Step.{busAt, front, ranOf, finished, canStep, imageFits, banksIn, linesFit, stateNow, eventNow, step}
+use Rattle.rules.specs.Step.{busAt, front, ranOf, finished, canStep, linesFit, stateNow, eventNow, step}
 use Rattle.rules.specs.Basics.{if_then_else_, at}
 use Rattle.rules.proofs.Steps.{list-length}
 use Rattle.rules.proofs.Records.{formed, written-again}
 use Rattle.wiring.specs.Wiring.{Part, the6502, the6508, the6509}
 use Rattle.bus.specs.Goes.{Does, moved}
 use Rattle.step.specs.Parts.{vectorOf, closed, left, advanced, Begins}
-use Rattle.checks.specs.Checks.{banksFor}
-use Rattle.rules.proofs.Tests.{and-right}
+use Rattle.checks.specs.Checks.{Fits}
 
 front-is : (made : List Access) (l : List ℕ) → length made ≤ 7 → 56 ≤ length l → front (listOf made) l ≡ sets l 0 (listOf made)
 front-is made l n room =
@@ -44,20 +44,12 @@ finishes e lines n u {l = l} p q d most room h =
     let c : length (g .made) ≡ n = omega (arith, g .count) in
     rw (p, q, g .ran, c, front-is (g .made) l (omega (arith, g .count)) room, g .listed, h)
 
-pub flipped : (b : Bool) → true ≡ not b → b ≡ false
-flipped true h = h
-flipped false h = refl
-
-pub flopped : (b : Bool) → false ≡ not b → b ≡ true
-flopped true h = refl
-flopped false h = h
-
 -- the number 255 is that of an undefined opcode
 pub undefined-at : (n k : ℕ) → n < 256 → k ≡ numberOf (decode n) → k ≡ 255 → isDefined (decode n) ≡ false
-undefined-at n k h e q = flipped _ (sym (eq-eqb k 255 q) ∙ (rw e (defined-is n h)))
+undefined-at n k h e q = not-true _ (sym (sym (eq-eqb k 255 q) ∙ (rw e (defined-is n h))))
 
 pub defined-at : (n k : ℕ) → n < 256 → k ≡ numberOf (decode n) → (k ≡ 255 → ⊥) → isDefined (decode n) ≡ true
-defined-at n k h e q = flopped _ (sym (ne-eqb k 255 q) ∙ (rw e (defined-is n h)))
+defined-at n k h e q = not-false _ (sym (sym (ne-eqb k 255 q) ∙ (rw e (defined-is n h))))
 
 -- Which event a vector stands for.
 
@@ -109,28 +101,18 @@ begins r p k n e long small h =
       banks = sym e;
     }
 
--- the banks of an image that fits
-pub banks-in : (part n k : ℕ) → k ≡ banksFor part n → (k ≡ 0 → ⊥) → (imageFits part n ≡ true) × (k ≡ banksIn n)
-banks-in part n k e h = go (imageFits part n) refl e
-  where
-    go : (b : Bool) → imageFits part n ≡ b → k ≡ (if b then banksIn n else 0) → (imageFits part n ≡ true) × (k ≡ banksIn n)
-    go true q d = (q, d)
-    go false q d = absurd (h d)
+-- What is left to refuse once the record and the image fit.
+module _ (r m l : List ℕ) (lines pins k : ℕ) (f : Fits r m k) where
+  pub lines-unfit : linesFit (at r 0) lines pins ≡ false → left (Refused Lines) r m l ≡ step images r m lines pins l
+  unfolding step
+  lines-unfit h = rw (eq-eqb (length r) 16 (f .whole), f .formed, f .image, h)
 
-pub banks-out : (part n k : ℕ) → k ≡ banksFor part n → k ≡ 0 → imageFits part n ≡ false
-banks-out part n k e h = go (imageFits part n) refl (sym e ∙ h)
-  where
-    -- an image that fits has banks
-    some : imageFits part n ≡ true → n / 65536 ≡ 0 → ⊥
-    some q z = false≢true (and-right (is6509 part) false (rw z at (and-right (eqb (n % 65536) 0) _ q)))
+  pub no-room : linesFit (at r 0) lines pins ≡ true → length l < 56 → left (Refused Room) r m l ≡ step images r m lines pins l
+  unfolding step
+  no-room h n = rw (eq-eqb (length r) 16 (f .whole), f .formed, f .image, h, lt-leb 56 (length l) n)
 
-    go : (b : Bool) → imageFits part n ≡ b → (if b then banksIn n else 0) ≡ 0 → imageFits part n ≡ false
-    go true q d = absurd (some q d)
-    go false q d = q
-
--- the tests passed, only an undefined opcode is left to refuse
-pub all-passed : (r m l : List ℕ) (lines pins : ℕ) → length r ≡ 16 → wellFormed r ≡ true → imageFits (at r 0) (length m) ≡ true →
-    linesFit (at r 0) lines pins ≡ true → 56 ≤ length l →
-    step images r m lines pins l ≡ advanced (eventNow images r m lines pins) lines (stateNow images r m lines pins) r m l
-unfolding step
-all-passed r m l lines pins a b c d e = rw (eq-eqb (length r) 16 a, b, c, d, le-leb 56 (length l) e)
+  -- only an undefined opcode is left
+  pub all-passed : linesFit (at r 0) lines pins ≡ true → 56 ≤ length l →
+      advanced (eventNow images r m lines pins) lines (stateNow images r m lines pins) r m l ≡ step images r m lines pins l
+  unfolding step
+  all-passed h n = rw (eq-eqb (length r) 16 (f .whole), f .formed, f .image, h, le-leb 56 (length l) n)

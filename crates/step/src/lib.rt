@@ -19,6 +19,7 @@ ghost use Rattle.rules.specs.Record.{long, recordOf};
 ghost use Rattle.rules.specs.Step.{busAt, ranOf, finished, step};
 ghost use Rattle.table.specs.Numbers.{numberOf};
 ghost use Rattle.wiring.specs.Wiring.{Sound, Stands, Ready};
+ghost use Rattle.checks.specs.Checks.{Fits};
 ghost use Rattle.bus.specs.Goes.{moved, Does};
 ghost use Rattle.step.specs.Parts.{vectorOf, closed, resetOf, left, advanced, Begins};
 
@@ -213,22 +214,19 @@ fn run(
     run_interrupt(vector, state, image, lines, pins, list, banks)
 }
 
-// One step: "1 to 6 in order; 6 adds PC and opcode; no byte moves".
-pub fn step(state: &mut [u8], image: &mut [u8], lines: u8, pins: u8, list: &mut [u8]) -> StepAnswer
+// One step of a record and an image that fit: 4 to 6 in order; "6 adds PC and opcode; no byte moves".
+pub fn step(
+    state: &mut [u8],
+    image: &mut [u8],
+    lines: u8,
+    pins: u8,
+    list: &mut [u8],
+    banks: u8,
+) -> StepAnswer
+    requires { ⌜ Fits (now state) (now image) banks ⌝ }
     ensures { λ r. ⌜ left r (now (state .exit)) (now (image .exit)) (now (list .exit)) ≡ step images (now (state .entry)) (now (image .entry)) lines pins (now (list .entry)) ⌝ }
 {
-    if state.len() != 16 {
-        return StepAnswer::Refused(Refusal::RecordLength);
-    }
-    if !checks::well_formed(state) {
-        return StepAnswer::Refused(Refusal::Malformed);
-    }
-    let part = state[0];
-    let banks = checks::banks_of(part, image.len());
-    if banks == 0 {
-        return StepAnswer::Refused(Refusal::ImageLength);
-    }
-    if !checks::lines_fit(part, lines, pins) {
+    if !checks::lines_fit(state[0], lines, pins) {
         return StepAnswer::Refused(Refusal::Lines);
     }
     if list.len() < 56 {

@@ -7,12 +7,8 @@ use mathlib.Core.List.{List, [], _∷_, _++_}
 use lib.ListN.{length, take, set, length-append}
 use lib.Seq.{sets, take-suc, length-take-le}
 use Rattle.rules.specs.Basics.{at}
-use Rattle.text.specs.Text.{hex, each, accessLine, lineOf, bytesText, recordLine}
-
-pub sets-append : (xs ys l : List ℕ) (p : ℕ) → sets l p (xs ++ ys) ≡ sets (sets l p xs) (p + length xs) ys
-sets-append [] ys l p = let e : p + 0 ≡ p = omega arith in rw e
-sets-append (x ∷ xs) ys l p =
-    let e : p + suc (length xs) ≡ suc p + length xs = omega arith in rw e (sets-append xs ys (set l p x) (suc p))
+use Rattle.rules.proofs.Lists.{sets-append}
+use Rattle.rules.specs.Text.{hex, each, accessLine, lineOf, bytesText, recordLine}
 
 -- one element more of a piece
 pub sets-more : (t l : List ℕ) (p k : ℕ) → k < length l → set (sets t p (take k l)) (p + k) (at l k) ≡ sets t p (take (suc k) l)

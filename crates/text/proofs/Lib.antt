@@ -1,4 +1,3 @@
 pub mod Laws
-pub mod Shown
 pub mod Printing
-pub mod Examples
+pub mod Shown

@@ -18,18 +18,8 @@ use Rattle.rules.specs.Record.{wellFormed}
 use Rattle.rules.specs.Step.{front, step}
 use Rattle.rules.proofs.Steps.{lawful}
 use Rattle.step.specs.Parts.{left}
-use Rattle.text.specs.Text.{textOf, refusalLine, stepText, printed}
+use Rattle.rules.specs.Text.{textOf, refusalLine, stepText, printed}
 use Rattle.text.specs.Print.{Shows, printout, used, printing}
-
--- the tail of a buffer from p on, as it is lent and as it comes back
-pub tail-lent : (p : ℕ) (i : List ℕ) → take (length i - p) (drop p i) ≡ drop p i
-tail-lent p i = rw (← length-drop p i) (take-length (drop p i))
-
-pub tail-back : (p : ℕ) (i m : List ℕ) → putMid p (length i - p) i m ≡ take p i ++ m
-tail-back p i m =
-    let l : length (drop p i) ≤ length i - p = rw length-drop (le-refl (length i - p)) in
-    let e : drop (length i - p) (drop p i) ≡ [] = drop-of-length-le (drop p i) l in
-    rw (e, append-nil)
 
 module _ (i t t′ : List ℕ) (n : ℕ) where
   pub print-short : length i < 16 → Shows (refusalLine RecordLength) n t t′ → printout n i t′ ≡ printing i t

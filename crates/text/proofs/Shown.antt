@@ -12,7 +12,7 @@ use lib.Seq.{sets, sets-eq}
 use Rattle.rules.specs.declared.StepAnswer.the-variants.{Stepped}
 use Rattle.rules.specs.Basics.{if_then_else_}
 use Rattle.rules.specs.Step.{front}
-use Rattle.text.specs.Text.{digit, each, lineOf, numberLine, countLine, recordLine, stepText}
+use Rattle.rules.specs.Text.{digit, each, lineOf, numberLine, countLine, recordLine, stepText}
 use Rattle.text.specs.Print.{Shows}
 use Rattle.text.proofs.Laws.{sets-append, each-length, line-length, record-length}
 

@@ -7,7 +7,7 @@ use Rattle.rules.specs.Basics.{at}
 use Rattle.rules.specs.Bus.{images}
 use Rattle.rules.specs.Answers.{tested}
 use Rattle.rules.specs.Step.{front}
-use Rattle.text.specs.Text.{inputTests, stepOf, printed}
+use Rattle.rules.specs.Text.{inputTests, stepOf, printed}
 
 -- a text of n bytes at the front of a buffer
 pub record Shows (l : List ℕ) (n : ℕ) (t t′ : List ℕ) : Type 0 where

@@ -7,7 +7,7 @@ ghost use mathlib.Core.Path.{_≡_};
 ghost use lib.ListN.{length, take};
 ghost use lib.Seq.{sets};
 ghost use Rattle.rules.specs.Answers.{numbersOf};
-ghost use Rattle.text.specs.Text.{digit, hex, letter, each, accessLine, lineOf, numberLine, bytesText, recordLine, refusalLine, stepText};
+ghost use Rattle.rules.specs.Text.{digit, hex, letter, each, accessLine, lineOf, numberLine, bytesText, recordLine, refusalLine, stepText};
 ghost use Rattle.text.specs.Print.{Shows, printout, printing};
 
 // 0 to 9, A to F.
@@ -213,6 +213,6 @@ pub fn print(input: &mut [u8], text: &mut [u8; 123]) -> usize
     let lines = input[16];
     let pins = input[17];
     let mut list = [0; 56];
-    let a = step::step(&mut state, &mut input[18..], lines, pins, &mut list);
+    let a = calls::step(&mut state, &mut input[18..], lines, pins, &mut list);
     put_answer(text, a, &state, &list)
 }

@@ -1,11 +1,12 @@
 use mathlib.Core.Path.{ap}
+use Rattle.rules.specs.Answers.{stepWord}
 use Rattle.board.specs.Words.{worded}
 use borrow.Author.Needs.{needs}
 use Rattle.board.proofs.wankitare_step.Statement.{statement}
 use Rattle.board.proofs.wankitare_step.Tie as tie
 
 returns : tie.Need-returns
-returns c = rw (c .step-word .ensures) (ap worded (c .before .before .before .before .before .before .before .step .ensures))
+returns c = rw (c .step-word .ensures) (ap (worded stepWord) (c .before .before .before .before .before .before .before .step .ensures))
 
 pub wankitare-step-spec : {M : Type 1} → statement M
 wankitare-step-spec =

@@ -1,4 +1,4 @@
-use Rattle.text.specs.Text.{accessLine}
+use Rattle.rules.specs.Text.{accessLine}
 use borrow.Author.Needs.{needs}
 use Rattle.text.proofs.access_line.Statement.{statement}
 use Rattle.text.proofs.access_line.Tie as tie

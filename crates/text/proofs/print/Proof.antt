@@ -1,7 +1,8 @@
 use denote.Ref.{now}
 use mathlib.Core.Path.{sym, _∙_}
 use borrow.Author.Tests.{not-true, not-false}
-use Rattle.text.proofs.Printing.{tail-lent, tail-back, print-short, print-malformed, print-length, print-step, few}
+use Rattle.rules.proofs.Lists.{rest-lent, rest-back}
+use Rattle.text.proofs.Printing.{print-short, print-malformed, print-length, print-step, few}
 use borrow.Author.Needs.{needs}
 use Rattle.text.proofs.print.Statement.{statement}
 use Rattle.text.proofs.print.Tie as tie
@@ -27,8 +28,8 @@ returns-4 : tie.Need-returns-4
 returns-4 c =
     let i = now (c .before .before .before .before .before .before .before .before .before .before .before .before .before .before .before .before .before .before .before .before .before .before .args .input) in
     let well = sym (c .before .before .before .before .before .before .before .before .before .before .before .before .before .before .before .before .well-formed .ensures) ∙ not-false _ (c .before .before .before .before .before .before .before .before .before .before .before .before .before .before .before .if2 .left) in
-    let made = rw (tail-lent 18 i, c .before .before .before .before .before .before .before .before .before .before .before .before .before .before .before .before .before .before .record-of .ensures) at (c .before .before .before .before .before .before .before .before .step .ensures) in
-    rw (tail-back 18 i (c .before .before .before .before .before .before .before .before .step .last .1 .0))
+    let made = rw (rest-lent 18 i, c .before .before .before .before .before .before .before .before .before .before .before .before .before .before .before .before .before .before .record-of .ensures) at (c .before .before .before .before .before .before .before .before .step .ensures) in
+    rw (rest-back 18 i (c .before .before .before .before .before .before .before .before .step .last .1 .0))
     (print-step i _ _ _ (c .before .before .before .before .before .before .before .before .before .before .before .before .before .before .before .before .before .before .before .before .if1 .left) (rw (← c .before .before .before .before .before .before .before .before .before .before .before .before .before .before .before .before .before .before .record-of .ensures) well) _ _ _ _ (c .before .before .before .before .before .before .before .before .before .before .before .before .before .before .if3 .left) made (c .put-answer .ensures))
 
 pub print-spec : {M : Type 1} → statement M

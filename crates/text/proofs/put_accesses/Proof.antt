@@ -1,4 +1,4 @@
-use Rattle.text.specs.Text.{each, lineOf}
+use Rattle.rules.specs.Text.{each, lineOf}
 use Rattle.text.proofs.Laws.{each-more, line-length}
 use Prim.Native.Nat.{_-_, _≤_}
 use native.Mathlib.Numerals.{add-one}

@@ -1,5 +1,5 @@
 use lib.ListN.{getD}
-use Rattle.text.specs.Text.{each, hex}
+use Rattle.rules.specs.Text.{each, hex}
 use Rattle.text.proofs.Laws.{each-more}
 use Prim.Native.Nat.{_-_, _≤_}
 use native.Mathlib.Numerals.{add-one}

@@ -1,5 +1,5 @@
 use denote.Ref.{now}
-use Rattle.text.specs.Text.{each}
+use Rattle.rules.specs.Text.{each}
 use Rattle.text.proofs.Laws.{take-each}
 use mathlib.Core.Path.{sym}
 use borrow.Author.Needs.{needs}

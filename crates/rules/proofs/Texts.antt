@@ -8,12 +8,12 @@ use mathlib.Core.Bool.{Bool}
 use mathlib.Core.List.{List, [], _∷_, _++_}
 use lib.ListN.{length, drop, set, replicate, length-append}
 use lib.Seq.{take-at, drop-append-add, getD-append-add}
 use Rattle.rules.specs.Basics.{at}
 use Rattle.rules.specs.Bus.{Chart, images, charts}
 use Rattle.rules.proofs.Images.{Holds, step-same}
 use Rattle.rules.proofs.Opened.{opened}
 use Rattle.rules.proofs.Examples.{same, failing, zeros, _from_holds_, state, registers}
-use Rattle.text.specs.Text.{each, accessLine, numberLine, recordLine, textOf, printed}
+use Rattle.rules.specs.Text.{each, accessLine, numberLine, recordLine, textOf, printed}
 
 abbrev said : String → List ℕ
 said none = []

@@ -1,0 +1,80 @@
+-- One turn of a run: what it plays is what the rules play from where it stands.
+use Prim.Native.Nat.{ℕ, suc, _+_, _-_, _*_, _/_, _≤_, _<_}
+use native.Mathlib.Omega.{arith}
+use native.Mathlib.Nat.{le-refl}
+use mathlib.Core.Path.{_≡_, refl, sym, ap, subst, _∙_}
+use mathlib.Core.List.{List, [], _∷_, _++_, append-nil}
+use borrow.Rule.Slice.PartMut.{putMid}
+use lib.ListN.{length, take, drop, take-append-drop, length-drop, drop-of-length-le}
+use lib.Seq.{take-length, drop-cons}
+use Rattle.rules.specs.declared.Refusal.{Refusal}
+use Rattle.rules.specs.declared.StepAnswer.{StepAnswer}
+use Rattle.rules.specs.declared.StepAnswer.the-variants.{Stepped, Refused}
+use Rattle.rules.specs.declared.RunAnswer.the-variants.{Played, Stopped}
+use Rattle.rules.specs.Basics.{at}
+use Rattle.rules.specs.Bus.{images}
+use Rattle.rules.specs.Step.{Outcome, step}
+use Rattle.rules.specs.Run.{goesOn, play}
+use Rattle.rules.proofs.Steps.{Done, lawful}
+use Rattle.checks.specs.Checks.{Fits}
+use Rattle.step.specs.Parts.{left}
+use Rattle.calls.specs.Plays.{standing}
+
+-- the script's next two bytes
+next-two : (s : List ℕ) (i : ℕ) → i + 1 < length s → drop i s ≡ at s i ∷ at s (i + 1) ∷ drop (i + 2) s
+next-two s i h =
+    let a : suc i ≡ i + 1 = omega arith in
+    let b : suc (i + 1) ≡ i + 2 = omega arith in
+    drop-cons s i 0 (omega arith) ∙ ap (λ (t : List ℕ). at s i ∷ t) (rw a (drop-cons s (i + 1) 0 h ∙ (rw b)))
+
+-- A run that stands at byte i of the script s.
+module _ (s r m l : List ℕ) (i listed : ℕ) where
+  abbrev rest : List ℕ
+  rest = drop (8 * listed) l
+
+  abbrev turn : Outcome StepAnswer (List ℕ)
+  turn = step images r m (at s i) (at s (i + 1)) rest
+
+  -- it is at the end
+  pub ends : length s ≤ i → left (Played (i / 2) listed) r m l ≡ play images (drop i s) (standing i listed r m l)
+  unfolding play
+  ends h = rw (drop-of-length-le s h)
+
+  taken : i + 1 < length s →
+      play images (drop i s) (standing i listed r m l) ≡
+      goesOn images (play images (drop (i + 2) s)) (standing i listed r m l) turn (turn .answer)
+  unfolding play
+  taken h = ap (λ (t : List ℕ). play images t (standing i listed r m l)) (next-two s i h)
+
+  -- it has done that step
+  module _ (n : ℕ) (r′ m′ t : List ℕ) (e : left (Stepped n) r′ m′ t ≡ turn) where
+    pub goes-on : i + 1 < length s →
+        play images (drop i s) (standing i listed r m l) ≡
+        play images (drop (i + 2) s) (standing (i + 2) (listed + n) r′ m′ (take (8 * listed) l ++ t))
+    goes-on h =
+        let k : i / 2 + 1 ≡ (i + 2) / 2 = omega arith in
+        taken h ∙ (λ j. let o = sym e j in goesOn images (play images (drop (i + 2) s)) (standing i listed r m l) o (o .answer))
+        ∙ (λ j. play images (drop (i + 2) s) (left (record { steps = k j; listed = listed + n }) r′ m′ (take (8 * listed) l ++ t)))
+
+    did : Done images r m (at s i) (at s (i + 1)) rest (left (Stepped n) r′ m′ t) n
+    did =
+        subst (λ (o : Outcome StepAnswer (List ℕ)). Done images r m (at s i) (at s (i + 1)) rest o n) (sym e)
+        (lawful images r m (at s i) (at s (i + 1)) rest .moves n (λ j. sym e j .answer))
+
+    pub still-fits : (k : ℕ) → Fits r m k → length m′ ≡ length m → Fits r′ m′ k
+    still-fits k f h =
+        let d = did in
+        record { whole = d .record-size; formed = d .record-formed; image = rw (d .part, h) (f .image); banks = rw h (f .banks); some = f .some }
+
+    pub still-room : 8 * listed ≤ length l → 8 * (listed + n) ≤ length l
+    still-room h = omega (arith, did .room, length-drop (8 * listed) l)
+
+  -- that step was refused
+  pub stops : (d : Refusal) (r′ m′ t : List ℕ) → left (Refused d) r′ m′ t ≡ turn → i + 1 < length s →
+      left (Stopped (i / 2) listed d) r′ m′ (take (8 * listed) l ++ t) ≡ play images (drop i s) (standing i listed r m l)
+  stops d r′ m′ t e h =
+      let q = e ∙ lawful images r m (at s i) (at s (i + 1)) rest .stays d (λ j. sym e j .answer) in
+      let back = take-append-drop (8 * listed) l in
+      (λ j. let o = q j in left (Stopped (i / 2) listed d) (o .state) (o .image) (take (8 * listed) l ++ o .accesses))
+      ∙ (λ j. left (Stopped (i / 2) listed d) r m (back j))
+      ∙ sym (taken h ∙ (λ j. let o = sym e j in goesOn images (play images (drop (i + 2) s)) (standing i listed r m l) o (o .answer)))

@@ -1,0 +1,46 @@
+use mathlib.Core.Path.{sym, _∙_}
+use denote.Ref.{now}
+use Rattle.checks.proofs.Fits.{fits}
+use Rattle.calls.proofs.Firsts.{run-unfit, odd, even}
+use borrow.Author.Needs.{needs}
+use Rattle.calls.proofs.run.Statement.{statement}
+use Rattle.calls.proofs.run.Tie as tie
+
+returns : tie.Need-returns
+returns c =
+    let a = c .before .before .before .before .before .before .before .before .before .before .before .before .args in
+    rw (c .stopped .ensures) (odd (now (a .state)) (now (a .image)) (now (a .accesses)) (now (a .script)) _ (fits _ _ _ (sym (c .before .before .before .banks .given .1) ∙ c .before .before .before .before .before .fit .ensures)) (c .before .if1 .taken))
+
+play-requires : tie.Need-play-requires
+play-requires c κs = (fits _ _ _ (sym (c .before .before .before .before .before .banks .given .1) ∙ c .before .before .before .before .before .before .before .fit .ensures), c .before .before .before .if1 .left)
+
+returns-2 : tie.Need-returns-2
+returns-2 c =
+    let a = c .before .before .before .before .before .before .before .before .before .before .before .before .before .before .before .before .before .before .before .before .before .args in
+    c .before .before .before .before .before .before .play .ensures ∙ even (now (a .state)) (now (a .image)) (now (a .accesses)) (now (a .script)) _ (fits _ _ _ (sym (c .before .before .before .before .before .before .before .before .before .before .before .before .banks .given .1) ∙ c .before .before .before .before .before .before .before .before .before .before .before .before .before .before .fit .ensures)) (c .before .before .before .before .before .before .before .before .before .before .if1 .left)
+
+returns-3 : tie.Need-returns-3
+returns-3 c =
+    let a = c .before .before .before .before .before .before .before .before .before .before .before .args in
+    rw (c .stopped2 .ensures) (run-unfit (now (a .state)) (now (a .image)) (now (a .accesses)) (now (a .script)) _ (sym (c .before .before .e .given .1) ∙ c .before .before .before .before .fit .ensures))
+
+pub run-spec : {M : Type 1} → statement M
+run-spec =
+    tie.close
+    (tie.spec
+    (λ c κs. search needs)
+    (λ c. search needs)
+    (λ c κs. search needs)
+    (λ c. search needs)
+    (λ c. search needs)
+    returns
+    play-requires
+    (λ c. search needs)
+    (λ c κs. search needs)
+    (λ c. search needs)
+    (λ c. search needs)
+    (λ c. search needs)
+    returns-2
+    (λ c. search needs)
+    (λ c. search needs)
+    returns-3)
