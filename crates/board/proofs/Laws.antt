@@ -20,7 +20,7 @@ use Rattle.board.proofs.wankitare_step.Kinds as kinds
 use Rattle.board.proofs.wankitare_step.Reads as reads
 
 -- a refusal's number is not 0
-numbered : (d : Refusal) → refusalWord d % 256 ≡ 0 → ⊥
+pub numbered : (d : Refusal) → refusalWord d % 256 ≡ 0 → ⊥
 numbered RecordLength h = absurd (omega (arith, h))
 numbered Malformed h = absurd (omega (arith, h))
 numbered ImageLength h = absurd (omega (arith, h))

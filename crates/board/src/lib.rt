@@ -1,13 +1,19 @@
 // The exported functions: numbers and byte slices in, one word out.
 
+use rules::AppendAnswer;
 use rules::Refusal;
+use rules::RestartAnswer;
 use rules::RunAnswer;
 use rules::StepAnswer;
+ghost use Prim.Native.Nat.{ℕ, _<_};
 ghost use mathlib.Core.Path.{_≡_};
-ghost use Rattle.rules.specs.Answers.{packed, refusalWord, stepWord, runWords};
+ghost use Rattle.rules.specs.Answers.{packed, refusalWord, stepWord, runWords, restartWord, appendWord};
 ghost use Rattle.rules.specs.Bus.{images};
 ghost use Rattle.rules.specs.Step.{step};
 ghost use Rattle.rules.specs.Run.{runOf};
+ghost use Rattle.rules.specs.Restart.{restart, appendAt};
+ghost use Rattle.rules.specs.declared.RestartAnswer.the-variants.{Found};
+ghost use Rattle.rules.specs.declared.AppendAnswer.the-variants.{At};
 ghost use Rattle.step.specs.Parts.{left};
 ghost use Rattle.board.specs.Words.{worded};
 
@@ -99,4 +105,39 @@ pub extern "C" fn wankitare_run(
     ensures { λ r. ⌜ left (record { word = r; steps = now (steps .exit); listed = now (listed .exit) }) (now (state .exit)) (now (image .exit)) (now (accesses .exit)) ≡ worded runWords (runOf images (now (state .entry)) (now (image .entry)) (now (script .entry)) (now (accesses .entry))) ⌝ }
 {
     run_word(calls::run(state, accesses, image, script), steps, listed)
+}
+
+// A place in a restart file is under 65,536.
+fn restart_word(a: RestartAnswer) -> u64
+    requires { ⌜ ((p t : ℕ) → a ≡ Found p t → p < 65536) ⌝ }
+    ensures { λ r. ⌜ r ≡ restartWord a ⌝ }
+{
+    match a {
+        RestartAnswer::Found { at, tail } => packed(0, tail, at as u16),
+        RestartAnswer::NotFound(e) => refusal_word(e),
+    }
+}
+
+#[no_mangle]
+pub extern "C" fn wankitare_restart(file: &[u8]) -> u64
+    ensures { λ r. ⌜ r ≡ restartWord (restart (now (file .entry))) ⌝ }
+{
+    restart_word(restart::restart(file))
+}
+
+fn append_word(a: AppendAnswer) -> u64
+    requires { ⌜ ((p : ℕ) → a ≡ At p → p < 65536) ⌝ }
+    ensures { λ r. ⌜ r ≡ appendWord a ⌝ }
+{
+    match a {
+        AppendAnswer::At(place) => packed(0, 0, place as u16),
+        AppendAnswer::Full(e) => refusal_word(e),
+    }
+}
+
+#[no_mangle]
+pub extern "C" fn wankitare_append_at(file_len: u64) -> u64
+    ensures { λ r. ⌜ r ≡ appendWord (appendAt «file_len») ⌝ }
+{
+    append_word(restart::append_at(file_len))
 }

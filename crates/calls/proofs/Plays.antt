@@ -1,12 +1,10 @@
 -- One turn of a run: what it plays is what the rules play from where it stands.
 use Prim.Native.Nat.{ℕ, suc, _+_, _-_, _*_, _/_, _≤_, _<_}
 use native.Mathlib.Omega.{arith}
-use native.Mathlib.Nat.{le-refl}
 use mathlib.Core.Path.{_≡_, refl, sym, ap, subst, _∙_}
-use mathlib.Core.List.{List, [], _∷_, _++_, append-nil}
-use borrow.Rule.Slice.PartMut.{putMid}
+use mathlib.Core.List.{List, _∷_, _++_}
 use lib.ListN.{length, take, drop, take-append-drop, length-drop, drop-of-length-le}
-use lib.Seq.{take-length, drop-cons}
+use lib.Seq.{drop-cons}
 use Rattle.rules.specs.declared.Refusal.{Refusal}
 use Rattle.rules.specs.declared.StepAnswer.{StepAnswer}
 use Rattle.rules.specs.declared.StepAnswer.the-variants.{Stepped, Refused}
@@ -15,6 +13,7 @@ use Rattle.rules.specs.Basics.{at}
 use Rattle.rules.specs.Bus.{images}
 use Rattle.rules.specs.Step.{Outcome, step}
 use Rattle.rules.specs.Run.{goesOn, play}
+use Rattle.rules.proofs.Lists.{rest-lent}
 use Rattle.rules.proofs.Steps.{Done, lawful}
 use Rattle.checks.specs.Checks.{Fits}
 use Rattle.step.specs.Parts.{left}
@@ -34,6 +33,11 @@ module _ (s r m l : List ℕ) (i listed : ℕ) where
 
   abbrev turn : Outcome StepAnswer (List ℕ)
   turn = step images r m (at s i) (at s (i + 1)) rest
+
+  -- what it is lent is the buffer's rest
+  pub lent : (a : StepAnswer) (r′ m′ t : List ℕ) →
+      left a r′ m′ t ≡ step images r m (at s i) (at s (i + 1)) (take (length l - 8 * listed) (drop (8 * listed) l)) → left a r′ m′ t ≡ turn
+  lent a r′ m′ t e = e ∙ (λ j. step images r m (at s i) (at s (i + 1)) (rest-lent (8 * listed) l j))
 
   -- it is at the end
   pub ends : length s ≤ i → left (Played (i / 2) listed) r m l ≡ play images (drop i s) (standing i listed r m l)

@@ -1,8 +1,25 @@
--- No second word, record, image or access buffer fits the contract of `wankitare_step`.
-use mathlib.Core.Path.{sym, ap, _∙_}
+-- No second word, number or buffer fits the contract of an exported function.
+use Prim.Native.Nat.{ℕ}
+use mathlib.Core.Path.{refl, sym, ap, _∙_}
+use mathlib.Core.List.{List}
+use Rattle.rules.specs.Answers.{RunWords}
+use Rattle.rules.specs.Step.{Outcome}
 use Rattle.board.proofs as its
-use Rattle.unique.proofs.General.{Unique}
-use Rattle.unique.proofs.Step.{placed}
+use Rattle.unique.proofs.General.{Unique, answer}
+use Rattle.unique.proofs.Calls.{stepped}
 
 pub wankitare-step : Unique its.wankitare_step.Kinds.ps its.wankitare_step.Kinds.r its.wankitare_step.Reads.Post
-wankitare-step κs a x y p q = ap placed (p ∙ sym q)
+wankitare-step κs a x y p q = ap stepped (p ∙ sym q)
+
+-- the word, the buffers and the two numbers, each in the place of its parameter
+abbrev played : Outcome RunWords (List ℕ) → ℕ × (List ℕ × (List ℕ × (Unit {0} × (List ℕ × (ℕ × (ℕ × Unit {0}))))))
+played o = (o .answer .word, (o .state, (o .image, (tt, (o .accesses, (o .answer .steps, (o .answer .listed, tt)))))))
+
+pub wankitare-run : Unique its.wankitare_run.Kinds.ps its.wankitare_run.Kinds.r its.wankitare_run.Reads.Post
+wankitare-run κs a x y p q = ap played (p ∙ sym q)
+
+pub wankitare-restart : Unique its.wankitare_restart.Kinds.ps its.wankitare_restart.Kinds.r its.wankitare_restart.Reads.Post
+wankitare-restart κs a x y = answer refl
+
+pub wankitare-append-at : Unique its.wankitare_append_at.Kinds.ps its.wankitare_append_at.Kinds.r its.wankitare_append_at.Reads.Post
+wankitare-append-at κs a x y = answer refl

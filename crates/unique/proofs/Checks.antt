@@ -6,8 +6,8 @@ use Rattle.unique.proofs.General.{Unique, answer}
 pub well-formed : Unique its.well_formed.Kinds.ps its.well_formed.Kinds.r its.well_formed.Reads.Post
 well-formed κs a x y = answer refl
 
-pub banks-of : Unique its.banks_of.Kinds.ps its.banks_of.Kinds.r its.banks_of.Reads.Post
-banks-of κs a x y = answer refl
+pub fit : Unique its.fit.Kinds.ps its.fit.Kinds.r its.fit.Reads.Post
+fit κs a x y = answer refl
 
 pub lines-fit : Unique its.lines_fit.Kinds.ps its.lines_fit.Kinds.r its.lines_fit.Reads.Post
 lines-fit κs a x y = answer refl

@@ -3,6 +3,7 @@ pub mod Arithmetic
 pub mod Board
 pub mod Bus
 pub mod Bytes
+pub mod Calls
 pub mod Checks
 pub mod Decode
 pub mod Flags

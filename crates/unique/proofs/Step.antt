@@ -7,8 +7,8 @@ use Rattle.step.proofs as its
 use Rattle.unique.proofs.General.{Unique}
 
 -- the answer, the record, the image and the list, each in the place of its parameter
-abbrev pub placed : {A : Type 0} → Outcome A (List ℕ) → A × (List ℕ × (List ℕ × (Unit {0} × (Unit {0} × (List ℕ × Unit {0})))))
-placed o = (o .answer, (o .state, (o .image, (tt, (tt, (o .accesses, tt))))))
+abbrev placed : {A : Type 0} → Outcome A (List ℕ) → A × (List ℕ × (List ℕ × (Unit {0} × (Unit {0} × (List ℕ × (Unit {0} × Unit {0}))))))
+placed o = (o .answer, (o .state, (o .image, (tt, (tt, (o .accesses, (tt, tt)))))))
 
 pub step : Unique its.step.Kinds.ps its.step.Kinds.r its.step.Reads.Post
 step κs a x y p q = ap placed (p ∙ sym q)

@@ -6,10 +6,10 @@ use lib.ListN.{length, drop}
 use denote.Ref.{now}
 use Rattle.rules.specs.Bus.{images}
 use Rattle.rules.specs.Run.{start, play}
-use Rattle.rules.proofs.Lists.{rest-lent, rest-back}
+use Rattle.rules.proofs.Lists.{rest-back}
 use Rattle.checks.specs.Checks.{Fits}
 use Rattle.calls.specs.Plays.{standing}
-use Rattle.calls.proofs.Plays.{goes-on, still-fits, still-room, stops, ends}
+use Rattle.calls.proofs.Plays.{lent, goes-on, still-fits, still-room, stops, ends}
 use borrow.Author.Needs.{needs}
 use Rattle.calls.proofs.play.Statement.{statement}
 use Rattle.calls.proofs.play.Tie as tie
@@ -51,14 +51,14 @@ returns : tie.Need-returns Inv-loop μ-loop
 returns c =
     let at = c .before .before .before .before .before .before .before .before .before .before .before .before .before .before .before .before .before .loop in
     let a = c .before .before .before .before .before .before .before .before .before .before .before .before .before .before .before .before .before .before .before .before .before .before .args in
-    let e = rw (rest-lent (8 * at .listed) (at .accesses), c .before .before .e .given .1) at (c .before .before .before .before .before .before .before .before .before .before .step .ensures) in
+    let e = lent (now (a .script)) (at .state) (at .image) (at .accesses) (at .i) (at .listed) _ _ _ _ (rw (c .before .before .e .given .1) at (c .before .before .before .before .before .before .before .before .before .before .step .ensures)) in
     rw (c .stopped .ensures, rest-back (8 * at .listed) (at .accesses) _) (stops (now (a .script)) (at .state) (at .image) (at .accesses) (at .i) (at .listed) _ _ _ _ e (omega (arith, at .inv .even, c .before .before .before .before .before .before .before .before .before .before .before .before .before .before .before .before .before .before .before .before .before .before .pre .1)) ∙ sym (at .inv .plays))
 
 loop-again : tie.Need-loop-again Inv-loop μ-loop
 loop-again c =
     let at = c .before .before .before .before .before .before .before .before .before .before .before .before .before .before .before .before .loop in
     let a = c .before .before .before .before .before .before .before .before .before .before .before .before .before .before .before .before .before .before .before .before .before .args in
-    let e = rw (rest-lent (8 * at .listed) (at .accesses), c .before .n .given .1) at (c .before .before .before .before .before .before .before .before .before .step .ensures) in
+    let e = lent (now (a .script)) (at .state) (at .image) (at .accesses) (at .i) (at .listed) _ _ _ _ (rw (c .before .n .given .1) at (c .before .before .before .before .before .before .before .before .before .step .ensures)) in
     let h : at .i + 1 < length (now (a .script)) = omega (arith, at .inv .even, c .before .before .before .before .before .before .before .before .before .before .before .before .before .before .before .before .before .before .before .before .before .pre .1) in
     record {
       even = omega (arith, at .inv .even);
