@@ -1,9 +1,9 @@
 -- How functions that follow a tree are put together.
-use Prim.Native.Nat.{ℕ, suc, _+_, _*_}
+use Prim.Native.Nat.{ℕ, _+_, _*_}
 use native.Mathlib.Omega.{arith}
 use mathlib.Core.Path.{_≡_, refl, sym, ap, _∙_}
 use mathlib.Core.List.{List, [], _∷_, _++_}
-use lib.ListN.{length, set, length-append}
+use lib.ListN.{length, length-append}
 use lib.Seq.{sets}
 use Rattle.rules.specs.declared.Bus.{Bus}
 use Rattle.rules.specs.Cycles.{Bank, Cycles, done, read, write, _>>=_, Access, run}

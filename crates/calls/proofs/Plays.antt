@@ -1,7 +1,7 @@
 -- One turn of a run: what it plays is what the rules play from where it stands.
 use Prim.Native.Nat.{ℕ, suc, _+_, _-_, _*_, _/_, _≤_, _<_}
 use native.Mathlib.Omega.{arith}
-use mathlib.Core.Path.{_≡_, refl, sym, ap, subst, _∙_}
+use mathlib.Core.Path.{_≡_, sym, ap, subst, _∙_}
 use mathlib.Core.List.{List, _∷_, _++_}
 use lib.ListN.{length, take, drop, take-append-drop, length-drop, drop-of-length-le}
 use lib.Seq.{drop-cons}

@@ -1,11 +1,10 @@
 -- A step's accesses made and its record closed are what the rules' step leaves.
-use Prim.Native.Nat.{ℕ, _+_, _/_, _%_, _≤_, _<_}
+use Prim.Native.Nat.{ℕ, _+_, _≤_, _<_}
 use native.Mathlib.Omega.{arith}
 use mathlib.Core.Path.{_≡_, refl, sym, _∙_}
-use mathlib.Core.Bool.{Bool, true, false, not, _||_, false≢true}
+use mathlib.Core.Bool.{Bool, true, false, _||_, false≢true}
 use mathlib.Core.List.{List}
 use borrow.Author.Tests.{eqb-true, eq-eqb, ne-eqb, le-leb, lt-leb, not-true, not-false}
-use lib.Dec.{eqb}
 use lib.ListN.{length}
 use lib.Seq.{sets, sets-eq}
 use Rattle.rules.specs.declared.State.{State}
@@ -21,7 +20,7 @@ use Rattle.rules.specs.Interrupts.{Event, res, nmi, irq, execute, cyclesOf, int
 use Rattle.rules.specs.Bus.{is6502, is6508, is6509, images, listOf}
 use Rattle.rules.specs.Record.{stateOf, recordOf, wellFormed, partFits}
 use Rattle.rules.specs.Step.{busAt, front, ranOf, finished, canStep, linesFit, stateNow, eventNow, step}
-use Rattle.rules.specs.Basics.{if_then_else_, at}
+use Rattle.rules.specs.Basics.{at}
 use Rattle.rules.proofs.Steps.{list-length}
 use Rattle.rules.proofs.Records.{formed, written-again}
 use Rattle.wiring.specs.Wiring.{Part, the6502, the6508, the6509}

@@ -1,14 +1,11 @@
 -- What is printed where the input is refused, and where a step was made.
-use Prim.Native.Nat.{ℕ, _-_, _≤_, _<_}
+use Prim.Native.Nat.{ℕ, _≤_, _<_}
 use native.Mathlib.Omega.{arith}
-use native.Mathlib.Nat.{le-refl}
 use mathlib.Core.Path.{_≡_, sym, _∙_}
 use mathlib.Core.Bool.{true, false}
-use mathlib.Core.List.{List, [], _++_, append-nil}
+use mathlib.Core.List.{List, _++_}
 use borrow.Author.Tests.{lt-leb, le-leb, eq-eqb, ne-eqb}
-use borrow.Rule.Slice.PartMut.{putMid}
-use lib.ListN.{length, take, drop, length-append, length-drop, drop-of-length-le, replicate}
-use lib.Seq.{take-length}
+use lib.ListN.{length, take, drop, length-append, replicate}
 use Rattle.rules.specs.declared.Refusal.the-variants.{RecordLength, Malformed, ImageLength}
 use Rattle.rules.specs.declared.StepAnswer.{StepAnswer}
 use Rattle.rules.specs.declared.StepAnswer.the-variants.{Stepped}

@@ -1,4 +1,4 @@
-use mathlib.Core.Path.{ap, _∙_}
+use mathlib.Core.Path.{ap}
 use Rattle.rules.specs.Answers.{runWords}
 use Rattle.board.specs.Words.{worded}
 use borrow.Author.Needs.{needs}
