@@ -7,7 +7,7 @@ ghost use mathlib.Core.Path.{_≡_};
 ghost use lib.ListN.{length};
 ghost use Rattle.rules.specs.declared.State.{State};
 ghost use Rattle.rules.specs.Cycles.{Bank, execution};
-ghost use Rattle.rules.specs.Addressing.{oldPage, pointer, zeroIndexed, indexedPointer, loadIndexed, indexed, load, place};
+ghost use Rattle.rules.specs.Addressing.{oldPage, pointer, zeroIndexed, loadIndexed, indexed, load, place};
 ghost use Rattle.wiring.specs.Wiring.{Stands, Ready};
 ghost use Rattle.bus.specs.Goes.{Goes};
 ghost use Rattle.addressing.specs.Start.{fetchedOf};
@@ -53,15 +53,6 @@ fn zero_indexed(state: &[u8], w: Wiring, image: &[u8], list: &mut [u8], z: u8, i
 {
     bus::read(state, w, image, list, 2, z as u16);
     std::num::wrapping_add_u8(z, i)
-}
-
-// (z,X): "read unindexed, pointer low, high"
-fn indexed_pointer(state: &[u8], w: Wiring, image: &[u8], list: &mut [u8], z: u8, i: u8) -> u16
-    requires { ⌜ Ready w (length (now state)) (length (now image)) (length (now list)) ⌝ }
-    ensures { λ r. ⌜ ((s : State) → Stands execution s (now (state .entry)) w → Goes (indexedPointer z i) 2 (s .bus) (now (image .entry)) (now (list .entry)) r 5 (s .bus) (now (image .entry)) (now (list .exit))) ⌝ }
-{
-    bus::read(state, w, image, list, 2, z as u16);
-    pointer(state, w, image, list, 3, std::num::wrapping_add_u8(z, i))
 }
 
 // "read at the old page with the summed low byte; then the data at the full sum"
@@ -134,7 +125,8 @@ pub fn load(m: Mode, state: &[u8], w: Wiring, image: &[u8], list: &mut [u8]) -> 
         Mode::AbsoluteX(a) => load_indexed(state, w, image, list, 3, a, state[state::X]),
         Mode::AbsoluteY(a) => load_indexed(state, w, image, list, 3, a, state[state::Y]),
         Mode::IndirectX(z) => {
-            let a = indexed_pointer(state, w, image, list, z, state[state::X]);
+            let at = zero_indexed(state, w, image, list, z, state[state::X]);
+            let a = pointer(state, w, image, list, 3, at);
             Loaded {
                 value: bus::read(state, w, image, list, 5, a),
                 count: 6,
@@ -186,10 +178,13 @@ pub fn place(m: Mode, state: &[u8], w: Wiring, image: &[u8], list: &mut [u8]) ->
             address: indexed(state, w, image, list, 3, a, state[state::Y]),
             count: 4,
         },
-        Mode::IndirectX(z) => Spot {
-            address: indexed_pointer(state, w, image, list, z, state[state::X]),
-            count: 5,
-        },
+        Mode::IndirectX(z) => {
+            let at = zero_indexed(state, w, image, list, z, state[state::X]);
+            Spot {
+                address: pointer(state, w, image, list, 3, at),
+                count: 5,
+            }
+        }
         Mode::IndirectY(z) => {
             let a = pointer(state, w, image, list, 2, z);
             Spot {

@@ -7,35 +7,16 @@ use contract.Lifetimes.{Lfts}
 use borrow.Fn.Kinds.{Dens, endedOf}
 use denote.Triple.Clauses.{AtExit}
 use denote.Ref.{now}
-use Rattle.rules.specs.declared.Refusal.{Refusal}
-use Rattle.rules.specs.declared.Refusal.the-variants.{RecordLength, Malformed, ImageLength, Lines, Room, Undefined, ScriptLength, FileLength, Admission, MapRecord, Vectors, Place, StoreAddress, Stack, Successor}
 use Rattle.rules.specs.declared.StepAnswer.{StepAnswer}
 use Rattle.rules.specs.declared.StepAnswer.the-variants.{Stepped, Refused}
-use Rattle.rules.specs.Answers.{refusalWord, stepWord}
+use Rattle.rules.specs.Answers.{stepWord}
 use Rattle.rules.specs.Bus.{images}
 use Rattle.rules.specs.Step.{Outcome, step}
 use Rattle.rules.proofs.Steps.{Done, lawful}
+use Rattle.words.proofs.Laws.{numbered}
 use Rattle.step.specs.Parts.{left}
 use Rattle.board.proofs.wankitare_step.Kinds as kinds
 use Rattle.board.proofs.wankitare_step.Reads as reads
-
--- a refusal's number is not 0
-pub numbered : (d : Refusal) → refusalWord d % 256 ≡ 0 → ⊥
-numbered RecordLength h = absurd (omega (arith, h))
-numbered Malformed h = absurd (omega (arith, h))
-numbered ImageLength h = absurd (omega (arith, h))
-numbered Lines h = absurd (omega (arith, h))
-numbered Room h = absurd (omega (arith, h))
-numbered (Undefined pc opcode) h = absurd (omega (arith, h))
-numbered ScriptLength h = absurd (omega (arith, h))
-numbered FileLength h = absurd (omega (arith, h))
-numbered Admission h = absurd (omega (arith, h))
-numbered (MapRecord i) h = absurd (omega (arith, h))
-numbered Vectors h = absurd (omega (arith, h))
-numbered (Place i) h = absurd (omega (arith, h))
-numbered (StoreAddress i) h = absurd (omega (arith, h))
-numbered (Stack i) h = absurd (omega (arith, h))
-numbered (Successor i) h = absurd (omega (arith, h))
 
 -- the answer that a word with number 0 stands for
 counted : (b : StepAnswer) → stepWord b % 256 ≡ 0 → b ≡ Stepped (stepWord b / 256)

@@ -14,9 +14,8 @@ use Rattle.rules.specs.declared.AppendAnswer.{AppendAnswer}
 use Rattle.rules.specs.declared.AppendAnswer.the-variants.{At, Full}
 use Rattle.rules.specs.Answers.{restartWord, appendWord}
 use Rattle.rules.specs.Restart.{recordAt, restart, appendAt, Grown}
-use Rattle.rules.proofs.Restarts.{answerOf, finds-last, Written, found-written}
-use Rattle.board.proofs.Laws.{numbered}
-use Rattle.board.proofs.Places.{found-low}
+use Rattle.rules.proofs.Restarts.{answerOf, found-place, finds-last, Written, found-written}
+use Rattle.words.proofs.Laws.{numbered}
 use Rattle.board.proofs.wankitare_restart.Kinds as kinds
 use Rattle.board.proofs.wankitare_restart.Reads as reads
 use Rattle.board.proofs.wankitare_append_at.Kinds as append-kinds
@@ -37,8 +36,7 @@ module _ (κs : Lfts 1) (a : Dens κs kinds.ps) (x : ℕ) (t : AtExit (endedOf 1
       go : (b : RestartAnswer) → restart file ≡ b → Written (recordAt file (x / 65536)) g
       go (Found q n) e =
           let w : x ≡ restartWord (Found q n) = p ∙ ap restartWord e in
-          let l = found-low file q n e in
-          let same : q ≡ x / 65536 = omega (arith, w, l .0, l .1) in
+          let same : q ≡ x / 65536 = omega (arith, w, found-place file q n e .1) in
           subst (λ (k : ℕ). Written (recordAt file k) g) same (found-written g q n e)
       go (NotFound d) e = absurd (numbered d ((λ j. sym (p ∙ ap restartWord e) j % 256) ∙ h))
 

@@ -1,4 +1,4 @@
--- What is refused before anything.
+-- What a run refuses before anything.
 use Prim.Native.Nat.{ℕ, _%_}
 use mathlib.Core.Path.{_≡_, sym}
 use mathlib.Core.List.{List}
@@ -6,30 +6,23 @@ use borrow.Author.Tests.{eq-eqb, ne-eqb}
 use lib.ListN.{length, drop}
 use Rattle.rules.specs.declared.Refusal.{Refusal}
 use Rattle.rules.specs.declared.Refusal.the-variants.{ScriptLength}
-use Rattle.rules.specs.declared.StepAnswer.the-variants as step-answer
 use Rattle.rules.specs.declared.RunAnswer.the-variants.{Stopped}
 use Rattle.rules.specs.Bus.{images}
-use Rattle.rules.specs.Step.{refused, stepTests, step}
 use Rattle.rules.specs.Run.{start, stopped, runTests, play, runOf}
 use Rattle.checks.specs.declared.Checked.the-variants.{Refused}
 use Rattle.checks.specs.Checks.{fitOf, Fits}
 use Rattle.checks.proofs.Fits.{unfit}
 use Rattle.step.specs.Parts.{left}
 
-module _ (r m l : List ℕ) where
-  pub step-unfit : (lines pins : ℕ) (e : Refusal) → Refused e ≡ fitOf r m → left (step-answer.Refused e) r m l ≡ step images r m lines pins l
-  unfolding step
-  step-unfit lines pins e h = sym (unfit r m (drop 3 (stepTests images r m lines pins l)) (refused images r m lines pins l) _ e h)
+module _ (r m l s : List ℕ) where
+  pub run-unfit : (e : Refusal) → Refused e ≡ fitOf r m → left (Stopped 0 0 e) r m l ≡ runOf images r m s l
+  unfolding runOf
+  run-unfit e h = sym (unfit r m (drop 3 (runTests images r m s l)) (stopped images (start images r m s l)) _ e h)
 
-  module _ (s : List ℕ) where
-    pub run-unfit : (e : Refusal) → Refused e ≡ fitOf r m → left (Stopped 0 0 e) r m l ≡ runOf images r m s l
-    unfolding runOf
-    run-unfit e h = sym (unfit r m (drop 3 (runTests images r m s l)) (stopped images (start images r m s l)) _ e h)
+  pub odd : (k : ℕ) → Fits r m k → (length s % 2 ≡ 0 → ⊥) → left (Stopped 0 0 ScriptLength) r m l ≡ runOf images r m s l
+  unfolding runOf
+  odd k f h = rw (eq-eqb (length r) 16 (f .whole), f .formed, f .image, ne-eqb (length s % 2) 0 h)
 
-    pub odd : (k : ℕ) → Fits r m k → (length s % 2 ≡ 0 → ⊥) → left (Stopped 0 0 ScriptLength) r m l ≡ runOf images r m s l
-    unfolding runOf
-    odd k f h = rw (eq-eqb (length r) 16 (f .whole), f .formed, f .image, ne-eqb (length s % 2) 0 h)
-
-    pub even : (k : ℕ) → Fits r m k → length s % 2 ≡ 0 → play images s (start images r m s l) ≡ runOf images r m s l
-    unfolding runOf
-    even k f h = rw (eq-eqb (length r) 16 (f .whole), f .formed, f .image, eq-eqb (length s % 2) 0 h)
+  pub even : (k : ℕ) → Fits r m k → length s % 2 ≡ 0 → play images s (start images r m s l) ≡ runOf images r m s l
+  unfolding runOf
+  even k f h = rw (eq-eqb (length r) 16 (f .whole), f .formed, f .image, eq-eqb (length s % 2) 0 h)

@@ -1,3 +1,4 @@
 pub mod Firsts
 pub mod One
 pub mod Plays
+pub mod Tally

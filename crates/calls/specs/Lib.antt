@@ -1,1 +1,2 @@
 pub mod Plays
+pub mod Words

@@ -8,7 +8,7 @@ use rules::Mode;
 use rules::Reading;
 use rules::Storing;
 ghost use mathlib.Core.Path.{_≡_};
-ghost use Rattle.table.specs.Numbers.{readingOf, storingOf, changingOf, internalOf, conditionOf, modeOf, singleOf, made, isWord, fetched};
+ghost use Rattle.table.specs.Numbers.{readingOf, storingOf, changingOf, internalOf, conditionOf, modeOf, singleOf, withMode, made, fetched};
 
 fn reading(n: u8) -> Reading
     ensures { λ r. ⌜ r ≡ readingOf n ⌝ }
@@ -126,18 +126,24 @@ fn single(n: u8, low: u8, high: u8) -> Instruction
     }
 }
 
+fn with_mode(n: u8, m: Mode) -> Instruction
+    ensures { λ r. ⌜ r ≡ withMode n m ⌝ }
+{
+    if n < table::STA {
+        return Instruction::Read(reading(n), m);
+    }
+    if n < table::ASL {
+        return Instruction::Store(storing(n - table::STA), m);
+    }
+    Instruction::Change(changing(n - table::ASL), m)
+}
+
 // The instruction that an entry makes of the bytes after the opcode.
 pub fn instruction_of(entry: u8, low: u8, high: u8) -> Instruction
     ensures { λ r. ⌜ r ≡ made entry low high ⌝ }
 {
-    if entry < table::STA {
-        return Instruction::Read(reading(entry / 10), mode(entry % 10, low, high));
-    }
-    if entry < table::ASL {
-        return Instruction::Store(storing(entry / 10 - 12), mode(entry % 10, low, high));
-    }
     if entry < table::ASL_A {
-        return Instruction::Change(changing(entry / 10 - 15), mode(entry % 10, low, high));
+        return with_mode(entry % 21, mode(entry / 21, low, high));
     }
     if entry < table::CLC {
         return Instruction::Accumulator(changing(entry - table::ASL_A));
@@ -151,27 +157,14 @@ pub fn instruction_of(entry: u8, low: u8, high: u8) -> Instruction
     single(entry - table::JMP, low, high)
 }
 
-fn is_word(entry: u8) -> bool
-    ensures { λ r. ⌜ r ≡ isWord entry ⌝ }
-{
-    if entry < table::ASL_A {
-        let unit = entry % 10;
-        if unit < table::A {
-            return false;
-        }
-        return unit < table::IX;
-    }
-    if entry < table::JMP {
-        return false;
-    }
-    entry < table::JSR
-}
-
 // How many bytes are fetched before the instruction's own accesses: the opcode and the operand, of JSR its low byte only.
 pub fn fetched(entry: u8) -> u16
     ensures { λ r. ⌜ r ≡ fetched entry ⌝ }
 {
-    if is_word(entry) {
+    if entry < table::A {
+        return 2;
+    }
+    if entry < table::IX {
         return 3;
     }
     if entry < table::ASL_A {
@@ -182,6 +175,9 @@ pub fn fetched(entry: u8) -> u16
     }
     if entry < table::JMP {
         return 2;
+    }
+    if entry < table::JSR {
+        return 3;
     }
     if entry == table::JSR {
         return 2;

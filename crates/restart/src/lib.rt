@@ -20,7 +20,7 @@ pub fn restart(file: &[u8]) -> RestartAnswer
     let at = size / 16 * 16 - 16;
     if checks::well_formed(&file[at..at + 16]) {
         return RestartAnswer::Found {
-            at: at,
+            at: at as u16,
             tail: (size % 16) as u8,
         };
     }
@@ -32,7 +32,7 @@ pub fn append_at(size: u64) -> AppendAnswer
     ensures { λ r. ⌜ r ≡ appendAt size ⌝ }
 {
     if size < 65536 {
-        return AppendAnswer::At(size / 16 * 16);
+        return AppendAnswer::At((size / 16 * 16) as u16);
     }
     AppendAnswer::Full(Refusal::FileLength)
 }

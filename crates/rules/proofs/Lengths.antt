@@ -16,7 +16,7 @@ use Rattle.rules.specs.declared.Instruction.the-variants.{Read, Store, C
 use Rattle.rules.specs.Basics.{if_then_else_, address}
 use Rattle.rules.specs.Cycles.{Bank, execution, indirect, _>>=_, Device, run}
 use Rattle.rules.specs.Opcodes.{Entry, undefined, alone, byte, word, late, Row, rows, among, decode, isDefined}
-use Rattle.rules.specs.Addressing.{load, place, pointer, zeroIndexed, indexedPointer, indexed, crosses, loadIndexed}
+use Rattle.rules.specs.Addressing.{load, place, pointer, zeroIndexed, indexed, crosses, loadIndexed}
 use Rattle.rules.specs.Operations.{branchTo, enter, push, pull, jsr, rts, rti, brk, jumpIndirect, perform, operate, instruction, taken, target, next}
 use Rattle.rules.specs.Interrupts.{Event, res, nmi, irq, execute, interrupt, reset, cyclesOf}
 use Rattle.rules.specs.Bus.{Memory, world, board}
@@ -76,7 +76,7 @@ unfolding loadIndexed
 indexed-most b a i = λ v. most-if 1 (crosses a i) _ _ (λ w. tt) tt
 
 load-most : (c : Cpu) (m : Mode) → Most (loadMost m) (load c m)
-unfolding load zeroIndexed pointer indexedPointer _>>=_
+unfolding load zeroIndexed pointer _>>=_
 load-most c (Immediate v) = tt
 load-most c (Zero z) = λ v. tt
 load-most c (ZeroX z) = λ u v. tt
@@ -89,7 +89,7 @@ load-most c (IndirectY z) = λ low high. indexed-most execution (address low hig
 load-most c (IndirectBankY z) = λ low high. indexed-most indirect (address low high) (c .y)
 
 place-most : (c : Cpu) (m : Mode) → Most (placeMost m) (place c m)
-unfolding place zeroIndexed pointer indexedPointer indexed _>>=_
+unfolding place zeroIndexed pointer indexed _>>=_
 place-most c (Immediate v) = tt
 place-most c (Zero z) = tt
 place-most c (ZeroX z) = λ u. tt

@@ -16,7 +16,7 @@ use Rattle.rules.specs.declared.AppendAnswer.{AppendAnswer}
 use Rattle.rules.specs.declared.AppendAnswer.the-variants.{At, Full}
 use Rattle.rules.specs.Basics.{if_then_else_}
 use Rattle.rules.specs.Record.{wellFormed}
-use Rattle.rules.specs.Restart.{wholeOf, lastOf, recordAt, standing, restart, appendTests, appendAt, Grown, empty, done, cut, lost}
+use Rattle.rules.specs.Restart.{wholeOf, lastOf, recordAt, standing, restartTests, restart, appendTests, appendAt, Grown, empty, done, cut, lost}
 use Rattle.rules.proofs.Tests.{tested-case}
 
 -- where an append goes, and that it fits
@@ -26,6 +26,14 @@ append-place n p =
     tested-case (λ (a : AppendAnswer). a ≡ At p → (p ≡ wholeOf n) × (p + 16 ≤ 65536)) (appendTests n) Full _
     (λ d h. let z : _≡_ {A = ℕ} 0 1 = cc in absurd (omega arith))
     (λ hs h. let e : p ≡ wholeOf n = cc in (e, omega (arith, leb-true)))
+
+-- where the reader finds a record, and the tail behind it
+pub found-place : (file : List ℕ) (p t : ℕ) → restart file ≡ Found p t → (p ≡ lastOf (length file)) × (t ≡ length file % 16)
+unfolding restart
+found-place file p t =
+    tested-case (λ (a : RestartAnswer). a ≡ Found p t → (p ≡ lastOf (length file)) × (t ≡ length file % 16)) (restartTests file) NotFound _
+    (λ d h. let z : _≡_ {A = ℕ} 0 1 = cc in absurd (omega arith))
+    (λ hs h. (cc, cc))
 
 -- each of these records stands behind the older ones
 abbrev pub Stand : List (List ℕ) → List ℕ → Type 0

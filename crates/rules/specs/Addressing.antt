@@ -26,13 +26,9 @@ pointer z = do
   high ← get (sum8 z 1)
   done (address low high)
 
--- z,X and z,Y: "read the unindexed zero-page address"; then the data's address
+-- z,X and z,Y: "read the unindexed zero-page address"; then the data's address, of (z,X) the pointer's
 unfoldable pub zeroIndexed : ℕ → ℕ → Cycles ℕ
 zeroIndexed z i = get z >> done (sum8 z i)
-
--- (z,X): "read unindexed, pointer low, high"
-unfoldable pub indexedPointer : ℕ → ℕ → Cycles ℕ
-indexedPointer z i = get z >> pointer (sum8 z i)
 
 -- a,X and a,Y: "read at the old page with the summed low byte; then the data at the full sum"
 unfoldable pub indexed : Bank → ℕ → ℕ → Cycles ℕ
@@ -54,7 +50,7 @@ load c (ZeroY z) = zeroIndexed z (c .y) >>= get
 load c (Absolute a) = get a
 load c (AbsoluteX a) = loadIndexed execution a (c .x)
 load c (AbsoluteY a) = loadIndexed execution a (c .y)
-load c (IndirectX z) = indexedPointer z (c .x) >>= get
+load c (IndirectX z) = zeroIndexed z (c .x) >>= λ p. pointer p >>= get
 load c (IndirectY z) = pointer z >>= λ a. loadIndexed execution a (c .y)
 load c (IndirectBankY z) = pointer z >>= λ a. loadIndexed indirect a (c .y)
 
@@ -67,7 +63,7 @@ place c (ZeroY z) = zeroIndexed z (c .y)
 place c (Absolute a) = done a
 place c (AbsoluteX a) = indexed execution a (c .x)
 place c (AbsoluteY a) = indexed execution a (c .y)
-place c (IndirectX z) = indexedPointer z (c .x)
+place c (IndirectX z) = zeroIndexed z (c .x) >>= pointer
 place c (IndirectY z) = pointer z >>= λ a. indexed execution a (c .y)
 place c (IndirectBankY z) = pointer z >>= λ a. indexed indirect a (c .y)
 

@@ -4,6 +4,7 @@ use mathlib.Core.Bool.{Bool}
 use mathlib.Core.List.{List, [], _∷_}
 use Rattle.rules.specs.declared.Refusal.{Refusal}
 use Rattle.rules.specs.declared.Refusal.the-variants.{RecordLength, Malformed, ImageLength, Lines, Room, Undefined, ScriptLength, FileLength, Admission, MapRecord, Vectors, Place, StoreAddress, Stack, Successor}
+use Rattle.rules.specs.declared.Numbers.{Numbers}
 use Rattle.rules.specs.declared.StepAnswer.{StepAnswer}
 use Rattle.rules.specs.declared.StepAnswer.the-variants.{Stepped, Refused}
 use Rattle.rules.specs.declared.RunAnswer.{RunAnswer}
@@ -32,11 +33,6 @@ tested (t ∷ ts) refuse a = if t .holds then tested ts refuse a else refuse (t 
 
 -- "Where an answer is an enum, a definition gives this paper's number and values for each case of the enum." A refusal has a number, and
 -- perhaps a small and a large detail: "6 adds PC and opcode"; "11 and 13 to 16 add the record's index; all other details are 0".
-pub record Numbers : Type 0 where
-  pub number : ℕ
-  pub small : ℕ
-  pub large : ℕ
-
 abbrev pub plain : ℕ → Numbers
 plain n = record { number = n; small = 0; large = 0 }
 

@@ -166,6 +166,13 @@ pub enum Refusal {
     Successor(u16),
 }
 
+// What the board is told of an answer: the number of document 01, and perhaps a small and a large detail.
+pub struct Numbers {
+    pub number: u8,
+    pub small: u8,
+    pub large: u16,
+}
+
 // A step: its number of accesses.
 pub enum StepAnswer {
     Stepped(u8),
@@ -187,13 +194,13 @@ pub enum RunAnswer {
 
 // The restart file: where the last whole record stands, and how many tail bytes follow.
 pub enum RestartAnswer {
-    Found { at: usize, tail: u8 },
+    Found { at: u16, tail: u8 },
     NotFound(Refusal),
 }
 
 // Where the next record of a restart file goes.
 pub enum AppendAnswer {
-    At(u64),
+    At(u16),
     Full(Refusal),
 }
 

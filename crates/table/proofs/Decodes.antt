@@ -10,7 +10,7 @@ use Rattle.rules.specs.declared.Instruction.the-variants.{Cli}
 use Rattle.rules.specs.Opcodes.{Entry, undefined, alone, byte, word, late, decode, isDefined, ofInstruction}
 use Rattle.rules.specs.Table.{table}
 use Rattle.rules.proofs.Table.{table-at}
-use Rattle.table.specs.Numbers.{number, numberOf, made, isWord, fetched, fetchedBy}
+use Rattle.table.specs.Numbers.{number, numberOf, made, fetched, fetchedBy}
 use Rattle.table.proofs.Lists.{at-map}
 
 -- a list made of the table's entries has at n what is made of opcode n
@@ -34,7 +34,7 @@ module _ (low high : ℕ) where
   makes = refl
 
 fetches : map (λ (e : Entry). fetched (numberOf e)) table ≡ map fetchedBy table
-unfolding table number numberOf isWord fetched
+unfolding table number numberOf fetched
 fetches = refl
 
 defines : map (λ (e : Entry). eqb (numberOf e) 255) table ≡ map (λ (e : Entry). not (isDefined e)) table

@@ -1,9 +1,8 @@
--- An instruction as a number, its operand apart: what an entry of the table is. Where there is a mode, the tens are the operation and the
--- unit is the mode.
+-- An instruction as a number, its operand apart: what an entry of the table is. Of the 21 operations that have a mode it is 21 times the
+-- mode and the operation.
 use Prim.Native.Nat.{ℕ, _+_, _-_, _*_, _/_, _%_}
-use mathlib.Core.Bool.{Bool, _&&_}
 use mathlib.Core.List.{List, [], _∷_}
-use lib.Dec.{ltb, leb, eqb}
+use lib.Dec.{ltb, eqb}
 use lib.ListN.{getD}
 use Rattle.rules.specs.declared.Mode.{Mode}
 use Rattle.rules.specs.declared.Mode.the-variants.{Immediate, Zero, ZeroX, ZeroY, Absolute, AbsoluteX, AbsoluteY, IndirectX, IndirectY, IndirectBankY}
@@ -90,9 +89,9 @@ conditionNumber Bne = 6
 conditionNumber Beq = 7
 
 unfoldable pub number : Instruction → ℕ
-number (Read o m) = 10 * readingNumber o + modeNumber m
-number (Store o m) = 120 + 10 * storingNumber o + modeNumber m
-number (Change o m) = 150 + 10 * changingNumber o + modeNumber m
+number (Read o m) = 21 * modeNumber m + readingNumber o
+number (Store o m) = 21 * modeNumber m + 12 + storingNumber o
+number (Change o m) = 21 * modeNumber m + 15 + changingNumber o
 number (Accumulator o) = 210 + changingNumber o
 number (Implied o) = 214 + internalNumber o
 number (Branch t v) = 230 + conditionNumber t
@@ -164,24 +163,28 @@ singles low high =
 abbrev pub singleOf : ℕ → ℕ → ℕ → Instruction
 singleOf n low high = getD (singles low high) n Cli
 
+abbrev pub withMode : ℕ → Mode → Instruction
+withMode n m =
+    if ltb n 12 then Read (readingOf n) m
+    else if ltb n 15 then Store (storingOf (n - 12)) m
+    else Change (changingOf (n - 15)) m
+
 -- the instruction that a number makes of the two bytes after the opcode
 unfoldable pub made : ℕ → ℕ → ℕ → Instruction
 made n low high =
-    if ltb n 120 then Read (readingOf (n / 10)) (modeOf (n % 10) low high)
-    else if ltb n 150 then Store (storingOf (n / 10 - 12)) (modeOf (n % 10) low high)
-    else if ltb n 210 then Change (changingOf (n / 10 - 15)) (modeOf (n % 10) low high)
+    if ltb n 210 then withMode (n % 21) (modeOf (n / 21) low high)
     else if ltb n 214 then Accumulator (changingOf (n - 210))
     else if ltb n 230 then Implied (internalOf (n - 214))
     else if ltb n 238 then Branch (conditionOf (n - 230)) low
     else singleOf (n - 238) low high
 
--- the operand is an address: a, a,X, a,Y, and both JMP
-unfoldable pub isWord : ℕ → Bool
-isWord n = if ltb n 210 then leb 4 (n % 10) && ltb (n % 10) 7 else leb 238 n && ltb n 240
-
--- how many bytes are fetched before the instruction's own accesses
+-- how many bytes are fetched before the instruction's own accesses: 3 of a, a,X, a,Y and both JMP, whose operand is an address
 unfoldable pub fetched : ℕ → ℕ
-fetched n = if isWord n then 3 else if ltb n 210 then 2 else if ltb n 230 then 1 else if ltb n 238 then 2 else if eqb n 240 then 2 else 1
+fetched n =
+    if ltb n 84 then 2 else if ltb n 147 then 3 else if ltb n 210 then 2
+    else if ltb n 230 then 1
+    else if ltb n 238 then 2
+    else if ltb n 240 then 3 else if eqb n 240 then 2 else 1
 
 -- the same of an entry: the opcode, and the operand; "JSR: low, .., then high operand"
 abbrev pub fetchedBy : Entry → ℕ

@@ -1,77 +1,78 @@
 // The table of 256 opcodes.
 //
-// An entry is one byte: the instruction apart from its operand. Where there is a mode, the tens are the operation and the unit is the mode;
-// the instructions without one follow, one number each. Each group is in the order of its enum in rules.
+// An entry is one byte: the instruction apart from its operand. Of the 21 operations that have a mode, it is 21 times the mode and the
+// operation, so that the modes with an address of two bytes lie side by side; the instructions without a mode follow, one number each.
+// Each group is in the order of its enum in rules.
 
 ghost use mathlib.Core.Path.{_≡_};
 ghost use Rattle.rules.specs.Opcodes.{decode};
 ghost use Rattle.table.specs.Numbers.{numberOf};
 
-// What reads a byte, in tens.
+// What reads a byte.
 const ORA: u8 = 0;
 
-const AND: u8 = 10;
+const AND: u8 = 1;
 
-const EOR: u8 = 20;
+const EOR: u8 = 2;
 
-const ADC: u8 = 30;
+const ADC: u8 = 3;
 
-const LDA: u8 = 40;
+const LDA: u8 = 4;
 
-const CMP: u8 = 50;
+const CMP: u8 = 5;
 
-const SBC: u8 = 60;
+const SBC: u8 = 6;
 
-const LDX: u8 = 70;
+const LDX: u8 = 7;
 
-const LDY: u8 = 80;
+const LDY: u8 = 8;
 
-const CPX: u8 = 90;
+const CPX: u8 = 9;
 
-const CPY: u8 = 100;
+const CPY: u8 = 10;
 
-const BIT: u8 = 110;
+const BIT: u8 = 11;
 
 // What stores a register.
-pub const STA: u8 = 120;
+pub const STA: u8 = 12;
 
-const STX: u8 = 130;
+const STX: u8 = 13;
 
-const STY: u8 = 140;
+const STY: u8 = 14;
 
 // What changes a byte in memory.
-pub const ASL: u8 = 150;
+pub const ASL: u8 = 15;
 
-const ROL: u8 = 160;
+const ROL: u8 = 16;
 
-const LSR: u8 = 170;
+const LSR: u8 = 17;
 
-const ROR: u8 = 180;
+const ROR: u8 = 18;
 
-const DEC: u8 = 190;
+const DEC: u8 = 19;
 
-const INC: u8 = 200;
+const INC: u8 = 20;
 
-// The modes, in units: #, z, z,X, z,Y, a, a,X, a,Y, (z,X), (z),Y, and (z),Y in the indirect bank.
+// The modes: #, z, z,X, z,Y, a, a,X, a,Y, (z,X), (z),Y, and (z),Y in the indirect bank.
 const IM: u8 = 0;
 
-const Z: u8 = 1;
+const Z: u8 = 21;
 
-const ZX: u8 = 2;
+const ZX: u8 = 42;
 
-const ZY: u8 = 3;
+const ZY: u8 = 63;
 
-pub const A: u8 = 4;
+pub const A: u8 = 84;
 
-const AX: u8 = 5;
+const AX: u8 = 105;
 
-const AY: u8 = 6;
+const AY: u8 = 126;
 
-pub const IX: u8 = 7;
+pub const IX: u8 = 147;
 
-const IY: u8 = 8;
+const IY: u8 = 168;
 
-const BY: u8 = 9;
+const BY: u8 = 189;
 
 // What changes A.
 pub const ASL_A: u8 = 210;

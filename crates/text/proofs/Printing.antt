@@ -1,11 +1,11 @@
 -- What is printed where the input is refused, and where a step was made.
-use Prim.Native.Nat.{ℕ, _≤_, _<_}
+use Prim.Native.Nat.{ℕ, _-_, _≤_, _<_}
 use native.Mathlib.Omega.{arith}
 use mathlib.Core.Path.{_≡_, sym, _∙_}
 use mathlib.Core.Bool.{true, false}
 use mathlib.Core.List.{List, _++_}
 use borrow.Author.Tests.{lt-leb, le-leb, eq-eqb, ne-eqb}
-use lib.ListN.{length, take, drop, length-append, replicate}
+use lib.ListN.{length, take, drop, length-append, length-drop, replicate}
 use Rattle.rules.specs.declared.Refusal.the-variants.{RecordLength, Malformed, ImageLength}
 use Rattle.rules.specs.declared.StepAnswer.{StepAnswer}
 use Rattle.rules.specs.declared.StepAnswer.the-variants.{Stepped}
@@ -13,7 +13,9 @@ use Rattle.rules.specs.Basics.{at}
 use Rattle.rules.specs.Bus.{images}
 use Rattle.rules.specs.Record.{wellFormed}
 use Rattle.rules.specs.Step.{front, step}
+use Rattle.rules.proofs.Lists.{rest-lent}
 use Rattle.rules.proofs.Steps.{lawful}
+use Rattle.checks.specs.Checks.{Fits}
 use Rattle.step.specs.Parts.{left}
 use Rattle.rules.specs.Text.{textOf, refusalLine, stepText, printed}
 use Rattle.text.specs.Print.{Shows, printout, used, printing}
@@ -38,6 +40,12 @@ module _ (i t t′ : List ℕ) (n : ℕ) where
           printout n (take 18 i ++ m) t′ ≡ printing i t
       unfolding textOf used
       print-step a r m l h e s = rw (le-leb 16 (length i) room, well, eq-eqb (length i) 65554 h, ← e, s .count, s .text)
+
+-- an input of the right length has an image of one bank
+pub one-bank : (i r : List ℕ) → length r ≡ 16 → wellFormed r ≡ true → length i ≡ 65554 → Fits r (take (length i - 18) (drop 18 i)) 1
+one-bank i r whole formed size =
+    let n : length (take (length i - 18) (drop 18 i)) ≡ 65536 = rw (rest-lent 18 i, length-drop 18 i) (omega arith) in
+    record { whole = whole; formed = formed; image = rw n; banks = rw n; some = omega arith }
 
 -- a step answers at most 7
 pub few : (a : StepAnswer) (r m l r′ m′ l′ : List ℕ) (lines pins : ℕ) → left a r′ m′ l′ ≡ step images r m lines pins l → (n : ℕ) → a ≡ Stepped n → n ≤ 7

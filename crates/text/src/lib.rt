@@ -6,7 +6,6 @@ ghost use Prim.Native.Nat.{ℕ, _+_, _*_, _≤_, _<_};
 ghost use mathlib.Core.Path.{_≡_};
 ghost use lib.ListN.{length, take};
 ghost use lib.Seq.{sets};
-ghost use Rattle.rules.specs.Answers.{numbersOf};
 ghost use Rattle.rules.specs.Text.{digit, hex, letter, each, accessLine, lineOf, numberLine, bytesText, recordLine, refusalLine, stepText};
 ghost use Rattle.text.specs.Print.{Shows, printout, printing};
 
@@ -48,28 +47,6 @@ fn access_line(kind: u8, bank: u8, high: u8, low: u8, value: u8) -> [u8; 12]
         digit(value % 16),
         b'\n',
     ]
-}
-
-fn number_of(e: Refusal) -> u8
-    ensures { λ r. ⌜ r ≡ numbersOf e .number ⌝ }
-{
-    match e {
-        Refusal::RecordLength => 1,
-        Refusal::Malformed => 2,
-        Refusal::ImageLength => 3,
-        Refusal::Lines => 4,
-        Refusal::Room => 5,
-        Refusal::Undefined { pc: _, opcode: _ } => 6,
-        Refusal::ScriptLength => 7,
-        Refusal::FileLength => 8,
-        Refusal::Admission => 10,
-        Refusal::MapRecord(_) => 11,
-        Refusal::Vectors => 12,
-        Refusal::Place(_) => 13,
-        Refusal::StoreAddress(_) => 14,
-        Refusal::Stack(_) => 15,
-        Refusal::Successor(_) => 16,
-    }
 }
 
 // Puts a piece of text at a place.
@@ -172,7 +149,7 @@ fn put_refusal(text: &mut [u8], e: Refusal) -> usize
     requires { ⌜ 5 ≤ length (now text) ⌝ }
     ensures { λ r. ⌜ Shows (refusalLine e) r (now (text .entry)) (now (text .exit)) ⌝ }
 {
-    put_number(text, 0, b'E', number_of(e))
+    put_number(text, 0, b'E', words::numbers_of(e).number)
 }
 
 fn put_step(text: &mut [u8], n: u8, state: &[u8], list: &[u8]) -> usize
@@ -213,6 +190,6 @@ pub fn print(input: &mut [u8], text: &mut [u8; 123]) -> usize
     let lines = input[16];
     let pins = input[17];
     let mut list = [0; 56];
-    let a = calls::step(&mut state, &mut input[18..], lines, pins, &mut list);
+    let a = step::step(&mut state, &mut input[18..], lines, pins, &mut list, 1);
     put_answer(text, a, &state, &list)
 }

@@ -6,7 +6,10 @@ use Rattle.rules.specs.Answers.{RunWords}
 use Rattle.rules.specs.Step.{Outcome}
 use Rattle.board.proofs as its
 use Rattle.unique.proofs.General.{Unique, answer}
-use Rattle.unique.proofs.Calls.{stepped}
+
+-- the word, the record, the image and the access buffer, each in the place of its parameter
+abbrev stepped : Outcome ℕ (List ℕ) → ℕ × (List ℕ × (List ℕ × (Unit {0} × (Unit {0} × (List ℕ × Unit {0})))))
+stepped o = (o .answer, (o .state, (o .image, (tt, (tt, (o .accesses, tt))))))
 
 pub wankitare-step : Unique its.wankitare_step.Kinds.ps its.wankitare_step.Kinds.r its.wankitare_step.Reads.Post
 wankitare-step κs a x y p q = ap stepped (p ∙ sym q)

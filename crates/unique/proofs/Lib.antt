@@ -24,3 +24,4 @@ pub mod Sums
 pub mod Table
 pub mod Text
 pub mod Wiring
+pub mod Words

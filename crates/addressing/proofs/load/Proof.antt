@@ -37,15 +37,15 @@ returns-7 c = (omega (arith, c .before .before .load-indexed2 .ensures .0), λ s
 
 returns-8 : tie.Need-returns-8
 unfolding load recordOf
-returns-8 c = (omega arith, λ s h. rw (c .before .before .before .before .before .before .before .before .before .before .m8 .given .1) (then-call _ (rw (h .bytes) at (c .before .before .before .before .before .before .indexed-pointer .ensures s h)) (c .before .before .read5 .ensures s execution h)))
+returns-8 c = (omega arith, λ s h. rw (c .before .before .before .before .before .before .before .before .before .before .before .before .before .before .m8 .given .1) (then-call _ (rw (h .bytes) at (c .before .before .before .before .before .before .before .before .before .before .zero-indexed3 .ensures s h)) (then-call _ (c .before .before .before .before .before .before .pointer .ensures s h) (c .before .before .read5 .ensures s execution h))))
 
 returns-9 : tie.Need-returns-9
 unfolding load recordOf
-returns-9 c = (omega (arith, c .before .before .load-indexed3 .ensures .0), λ s h. rw (c .before .before .before .before .before .before .before .before .before .before .m9 .given .1) (then-call _ (c .before .before .before .before .before .before .before .pointer .ensures s h) (rw (h .bytes) at (c .before .before .load-indexed3 .ensures .1 s execution h))))
+returns-9 c = (omega (arith, c .before .before .load-indexed3 .ensures .0), λ s h. rw (c .before .before .before .before .before .before .before .before .before .before .m9 .given .1) (then-call _ (c .before .before .before .before .before .before .before .pointer2 .ensures s h) (rw (h .bytes) at (c .before .before .load-indexed3 .ensures .1 s execution h))))
 
 returns-10 : tie.Need-returns-10
 unfolding load recordOf
-returns-10 c = (omega (arith, c .before .before .load-indexed4 .ensures .0), λ s h. rw (c .before .before .before .before .before .before .before .before .before .before .before .m10 .given .1) (then-call _ (c .before .before .before .before .before .before .before .before .pointer2 .ensures s h) (rw (h .bytes) at (c .before .before .load-indexed4 .ensures .1 s indirect (c .before .before .before .before .before .indirect .ensures .1 s h)))))
+returns-10 c = (omega (arith, c .before .before .load-indexed4 .ensures .0), λ s h. rw (c .before .before .before .before .before .before .before .before .before .before .before .m10 .given .1) (then-call _ (c .before .before .before .before .before .before .before .before .pointer3 .ensures s h) (rw (h .bytes) at (c .before .before .load-indexed4 .ensures .1 s indirect (c .before .before .before .before .before .indirect .ensures .1 s h)))))
 
 pub load-spec : {M : Type 1} → statement M
 load-spec =
@@ -75,6 +75,7 @@ load-spec =
     (λ c κs. search needs)
     (λ c. search needs)
     (λ c. search needs)
+    (λ c κs. search needs)
     (λ c κs. search needs)
     (λ c κs. search needs)
     (λ c. search needs)

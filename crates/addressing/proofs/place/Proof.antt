@@ -37,15 +37,15 @@ returns-7 c = ((omega arith, rw (c .before .before .before .before .before .befo
 
 returns-8 : tie.Need-returns-8
 unfolding place recordOf
-returns-8 c = ((omega arith, rw (c .before .before .before .before .before .before .m8 .given .1) (omega arith)), λ s h. rw (c .before .before .before .before .before .before .m8 .given .1) (rw (h .bytes) at (c .before .before .indexed-pointer .ensures s h)))
+returns-8 c = ((omega arith, rw (c .before .before .before .before .before .before .before .before .before .before .m8 .given .1) (omega arith)), λ s h. rw (c .before .before .before .before .before .before .before .before .before .before .m8 .given .1) (then-call _ (rw (h .bytes) at (c .before .before .before .before .before .before .zero-indexed3 .ensures s h)) (c .before .before .pointer .ensures s h)))
 
 returns-9 : tie.Need-returns-9
 unfolding place recordOf
-returns-9 c = ((omega arith, rw (c .before .before .before .before .before .before .before .before .before .before .m9 .given .1) (omega arith)), λ s h. rw (c .before .before .before .before .before .before .before .before .before .before .m9 .given .1) (then-call _ (c .before .before .before .before .before .before .before .pointer .ensures s h) (rw (h .bytes) at (c .before .before .indexed3 .ensures s execution h))))
+returns-9 c = ((omega arith, rw (c .before .before .before .before .before .before .before .before .before .before .m9 .given .1) (omega arith)), λ s h. rw (c .before .before .before .before .before .before .before .before .before .before .m9 .given .1) (then-call _ (c .before .before .before .before .before .before .before .pointer2 .ensures s h) (rw (h .bytes) at (c .before .before .indexed3 .ensures s execution h))))
 
 returns-10 : tie.Need-returns-10
 unfolding place recordOf
-returns-10 c = ((omega arith, rw (c .before .before .before .before .before .before .before .before .before .before .before .m10 .given .1) (omega arith)), λ s h. rw (c .before .before .before .before .before .before .before .before .before .before .before .m10 .given .1) (then-call _ (c .before .before .before .before .before .before .before .before .pointer2 .ensures s h) (rw (h .bytes) at (c .before .before .indexed4 .ensures s indirect (c .before .before .before .before .before .indirect .ensures .1 s h)))))
+returns-10 c = ((omega arith, rw (c .before .before .before .before .before .before .before .before .before .before .before .m10 .given .1) (omega arith)), λ s h. rw (c .before .before .before .before .before .before .before .before .before .before .before .m10 .given .1) (then-call _ (c .before .before .before .before .before .before .before .before .pointer3 .ensures s h) (rw (h .bytes) at (c .before .before .indexed4 .ensures s indirect (c .before .before .before .before .before .indirect .ensures .1 s h)))))
 
 pub place-spec : {M : Type 1} → statement M
 place-spec =
@@ -72,6 +72,7 @@ place-spec =
     (λ c κs. search needs)
     (λ c. search needs)
     (λ c. search needs)
+    (λ c κs. search needs)
     (λ c κs. search needs)
     (λ c. search needs)
     (λ c κs. search needs)

@@ -1,15 +1,16 @@
 use mathlib.Core.Path.{sym, ap, _∙_}
 use Rattle.rules.specs.Answers.{appendWord}
-use Rattle.board.proofs.Places.{append-low}
 use borrow.Author.Needs.{needs}
 use Rattle.board.proofs.wankitare_append_at.Statement.{statement}
 use Rattle.board.proofs.wankitare_append_at.Tie as tie
 
-append-word-requires : tie.Need-append-word-requires
-append-word-requires c κs = λ p h. append-low _ p (sym (c .append-at .ensures) ∙ h)
-
 returns : tie.Need-returns
-returns c = c .append-word .ensures ∙ ap appendWord (c .before .append-at .ensures)
+returns c = c .packed .ensures ∙ ap appendWord (sym (c .before .before .place .given .1) ∙ c .before .before .before .before .append-at .ensures)
+
+returns-2 : tie.Need-returns-2
+returns-2 c = c .refusal-word .ensures ∙ ap appendWord (sym (c .before .before .e .given .1) ∙ c .before .before .before .before .append-at .ensures)
 
 pub wankitare-append-at-spec : {M : Type 1} → statement M
-wankitare-append-at-spec = tie.close (tie.spec (λ c κs. search needs) append-word-requires returns)
+wankitare-append-at-spec =
+    tie.close
+    (tie.spec (λ c κs. search needs) (λ c. search needs) (λ c κs. search needs) (λ c. search needs) (λ c κs. search needs) returns returns-2)

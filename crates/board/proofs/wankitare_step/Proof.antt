@@ -1,14 +1,39 @@
-use mathlib.Core.Path.{ap}
-use Rattle.rules.specs.Answers.{stepWord}
-use Rattle.board.specs.Words.{worded}
+use native.Mathlib.Omega.{arith}
+use denote.Ref.{now}
+use Rattle.calls.proofs.One.{refuses, answers, few}
 use borrow.Author.Needs.{needs}
 use Rattle.board.proofs.wankitare_step.Statement.{statement}
 use Rattle.board.proofs.wankitare_step.Tie as tie
 
 returns : tie.Need-returns
-returns c = rw (c .step-word .ensures) (ap (worded stepWord) (c .before .before .before .before .before .before .before .step .ensures))
+returns c =
+    let a = c .before .before .before .before .before .before .before .before .before .before .before .before .before .before .before .before .args in
+    refuses (now (a .state)) (now (a .image)) (now (a .accesses)) (a .lines) (a .pins) _ _ _ _ _ (c .before .before .before .before .before .before .before .run .ensures) (c .if1 .taken)
+
+cast-t22 : tie.Need-cast-t22
+cast-t22 c =
+    let a = c .before .before .before .before .before .before .before .before .before .before .before .before .before .before .before .before .args in
+    omega (arith, few (now (a .state)) (now (a .image)) (now (a .accesses)) (a .lines) (a .pins) _ _ _ _ _ (c .before .before .before .before .before .before .before .run .ensures))
+
+returns-2 : tie.Need-returns-2
+returns-2 c =
+    let a = c .before .before .before .before .before .before .before .before .before .before .before .before .before .before .before .before .before .args in
+    answers (now (a .state)) (now (a .image)) (now (a .accesses)) (a .lines) (a .pins) _ _ _ _ _ (c .before .before .before .before .before .before .before .before .run .ensures) (c .before .if1 .left) _ (c .packed .ensures)
 
 pub wankitare-step-spec : {M : Type 1} → statement M
 wankitare-step-spec =
     tie.close
-    (tie.spec (λ c κs. search needs) (λ c κs. search needs) (λ c. search needs) (λ c. search needs) (λ c. search needs) returns)
+    (tie.spec
+    (λ c. search needs)
+    (λ c κs. search needs)
+    (λ c. search needs)
+    (λ c. search needs)
+    (λ c. search needs)
+    returns
+    (λ c. search needs)
+    cast-t22
+    (λ c κs. search needs)
+    (λ c. search needs)
+    (λ c. search needs)
+    (λ c. search needs)
+    returns-2)

@@ -1,6 +1,6 @@
 use Prim.Native.Nat.{ℕ, _+_, _-_, _*_, _%_, _≤_, _<_}
 use native.Mathlib.Omega.{arith}
-use mathlib.Core.Path.{_≡_, refl, sym, _∙_}
+use mathlib.Core.Path.{_≡_, refl, sym, ap, _∙_}
 use mathlib.Core.List.{List}
 use lib.ListN.{length, drop}
 use denote.Ref.{now}
@@ -9,6 +9,7 @@ use Rattle.rules.specs.Run.{start, play}
 use Rattle.rules.proofs.Lists.{rest-back}
 use Rattle.checks.specs.Checks.{Fits}
 use Rattle.calls.specs.Plays.{standing}
+use Rattle.calls.specs.Words.{worded, tallied}
 use Rattle.calls.proofs.Plays.{lent, goes-on, still-fits, still-room, stops, ends}
 use borrow.Author.Needs.{needs}
 use Rattle.calls.proofs.play.Statement.{statement}
@@ -25,11 +26,11 @@ record Running (state₀ image₀ script accesses₀ state image accesses : List
   plays : play images script (start images state₀ image₀ script accesses₀) ≡ play images (drop i script) (standing i listed state image accesses)
 
 abbrev Inv-loop : tie.InvT-loop
-Inv-loop state₀ image₀ script accesses₀ banks i₀ listed₀ state image accesses i listed =
+Inv-loop state₀ image₀ script accesses₀ tally₀ banks i₀ listed₀ state image accesses tally i listed =
     Running state₀ image₀ script accesses₀ state image accesses banks i listed
 
 abbrev μ-loop : tie.MeasureT-loop
-μ-loop state₀ image₀ script accesses₀ banks i₀ listed₀ state image accesses i listed = length script - i
+μ-loop state₀ image₀ script accesses₀ tally₀ banks i₀ listed₀ state image accesses tally i listed = length script - i
 
 loop-holds : tie.Need-loop-holds Inv-loop μ-loop
 loop-holds c =
@@ -49,10 +50,11 @@ step-requires c κs = c .before .before .before .before .before .before .loop .i
 
 returns : tie.Need-returns Inv-loop μ-loop
 returns c =
-    let at = c .before .before .before .before .before .before .before .before .before .before .before .before .before .before .before .before .before .loop in
-    let a = c .before .before .before .before .before .before .before .before .before .before .before .before .before .before .before .before .before .before .before .before .before .before .args in
-    let e = lent (now (a .script)) (at .state) (at .image) (at .accesses) (at .i) (at .listed) _ _ _ _ (rw (c .before .before .e .given .1) at (c .before .before .before .before .before .before .before .before .before .before .step .ensures)) in
-    rw (c .stopped .ensures, rest-back (8 * at .listed) (at .accesses) _) (stops (now (a .script)) (at .state) (at .image) (at .accesses) (at .i) (at .listed) _ _ _ _ e (omega (arith, at .inv .even, c .before .before .before .before .before .before .before .before .before .before .before .before .before .before .before .before .before .before .before .before .before .before .pre .1)) ∙ sym (at .inv .plays))
+    let at = c .before .before .before .before .before .before .before .before .before .before .before .before .before .before .before .before .before .before .loop in
+    let a = c .before .before .before .before .before .before .before .before .before .before .before .before .before .before .before .before .before .before .before .before .before .before .before .args in
+    let e = lent (now (a .script)) (at .state) (at .image) (at .accesses) (at .i) (at .listed) _ _ _ _ (rw (c .before .before .before .e .given .1) at (c .before .before .before .before .before .before .before .before .before .before .before .step .ensures)) in
+    let ends = stops (now (a .script)) (at .state) (at .image) (at .accesses) (at .i) (at .listed) _ _ _ _ e (omega (arith, at .inv .even, c .before .before .before .before .before .before .before .before .before .before .before .before .before .before .before .before .before .before .before .before .before .before .before .pre .1)) in
+    rw (c .stopped .ensures, rest-back (8 * at .listed) (at .accesses) _) (ap (worded tallied) (ends ∙ sym (at .inv .plays)))
 
 loop-again : tie.Need-loop-again Inv-loop μ-loop
 loop-again c =
@@ -73,8 +75,9 @@ loop-again c =
 
 returns-2 : tie.Need-returns-2 Inv-loop μ-loop
 returns-2 c =
-    let at = c .before .loop in
-    ends (now (c .before .before .before .before .before .before .args .script)) (at .state) (at .image) (at .accesses) (at .i) (at .listed) (c .loop-test .left) ∙ sym (at .inv .plays)
+    let at = c .before .before .before .loop in
+    rw (c .tell .ensures)
+    (ap (worded tallied) (ends (now (c .before .before .before .before .before .before .before .before .args .script)) (at .state) (at .image) (at .accesses) (at .i) (at .listed) (c .before .before .loop-test .left) ∙ sym (at .inv .plays)))
 
 pub play-spec : {M : Type 1} → statement M
 play-spec =
@@ -103,6 +106,7 @@ play-spec =
     (λ c. search needs)
     (λ c. search needs)
     loop-again
+    (λ c κs. search needs)
     (λ c. search needs)
     (λ c. search needs)
     (λ c. search needs)

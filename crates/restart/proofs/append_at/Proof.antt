@@ -15,4 +15,4 @@ unfolding appendAt
 returns-2 c = rw (lt-leb (wholeOf (c .before .args .size) + 16) 65536 (omega arith))
 
 pub append-at-spec : {M : Type 1} → statement M
-append-at-spec = tie.close (tie.spec (λ c. search needs) returns returns-2)
+append-at-spec = tie.close (tie.spec (λ c. search needs) (λ c. search needs) returns returns-2)

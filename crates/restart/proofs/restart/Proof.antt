@@ -35,5 +35,6 @@ restart-spec =
     (λ c. search needs)
     (λ c κs. search needs)
     (λ c. search needs)
+    (λ c. search needs)
     returns-3
     returns-4)

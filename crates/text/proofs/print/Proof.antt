@@ -2,7 +2,7 @@ use denote.Ref.{now}
 use mathlib.Core.Path.{sym, _∙_}
 use borrow.Author.Tests.{not-true, not-false}
 use Rattle.rules.proofs.Lists.{rest-lent, rest-back}
-use Rattle.text.proofs.Printing.{print-short, print-malformed, print-length, print-step, few}
+use Rattle.text.proofs.Printing.{print-short, print-malformed, print-length, print-step, one-bank, few}
 use borrow.Author.Needs.{needs}
 use Rattle.text.proofs.print.Statement.{statement}
 use Rattle.text.proofs.print.Tie as tie
@@ -19,6 +19,10 @@ returns-3 : tie.Need-returns-3
 returns-3 c =
     let well = sym (c .before .before .before .before .well-formed .ensures) ∙ not-false _ (c .before .before .before .if2 .left) in
     print-length _ _ _ _ (c .before .before .before .before .before .before .before .before .if1 .left) (rw (← c .before .before .before .before .before .before .record-of .ensures) well) (c .before .before .if3 .taken) (c .put-refusal3 .ensures)
+
+step-requires : tie.Need-step-requires
+step-requires c κs =
+    one-bank (now (c .before .before .before .before .before .before .before .before .before .before .before .before .before .args .input)) _ (search needs) (sym (c .before .before .before .before .before .before .before .well-formed .ensures) ∙ not-false _ (c .before .before .before .before .before .before .if2 .left)) (c .before .before .before .before .before .if3 .left)
 
 put-answer-requires : tie.Need-put-answer-requires
 put-answer-requires c κs =
@@ -54,7 +58,7 @@ print-spec =
     (λ c. search needs)
     (λ c. search needs)
     (λ c. search needs)
-    (λ c κs. search needs)
+    step-requires
     (λ c. search needs)
     (λ c. search needs)
     put-answer-requires
