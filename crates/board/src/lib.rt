@@ -10,7 +10,7 @@ ghost use Rattle.rules.specs.Step.{step};
 ghost use Rattle.rules.specs.Run.{runOf};
 ghost use Rattle.rules.specs.Restart.{restart, appendAt};
 ghost use Rattle.step.specs.Parts.{left};
-ghost use Rattle.calls.specs.Words.{worded};
+ghost use Rattle.run.specs.Words.{worded};
 
 // "Step: 1 to 6 in order": a run of one step. So the step's code stands at one place, within the run's loop.
 #[no_mangle]
@@ -25,7 +25,7 @@ pub extern "C" fn wankitare_step(
 {
     let script = [lines, pins];
     let mut tally = [0, 0];
-    let word = calls::run(state, image, &script, accesses, &mut tally);
+    let word = run::run(state, image, &script, accesses, &mut tally);
     if word != 0 {
         return word;
     }
@@ -48,7 +48,7 @@ pub extern "C" fn wankitare_run(
     ensures { λ r. ⌜ left (record { word = r; steps = now (steps .exit); listed = now (listed .exit) }) (now (state .exit)) (now (image .exit)) (now (accesses .exit)) ≡ worded runWords (runOf images (now (state .entry)) (now (image .entry)) (now (script .entry)) (now (accesses .entry))) ⌝ }
 {
     let mut tally = [0, 0];
-    let word = calls::run(state, image, script, accesses, &mut tally);
+    let word = run::run(state, image, script, accesses, &mut tally);
     *steps = tally[0];
     *listed = tally[1];
     word

@@ -3,7 +3,6 @@ pub mod Arithmetic
 pub mod Board
 pub mod Bus
 pub mod Bytes
-pub mod Calls
 pub mod Checks
 pub mod Decode
 pub mod Flags
@@ -16,6 +15,7 @@ pub mod Processor
 pub mod Relations
 pub mod Reset
 pub mod Restart
+pub mod Run
 pub mod Sequence
 pub mod Stack
 pub mod State

@@ -1,6 +1,6 @@
 use native.Mathlib.Omega.{arith}
 use denote.Ref.{now}
-use Rattle.calls.proofs.One.{refuses, answers, few}
+use Rattle.run.proofs.One.{refuses, answers, few}
 use borrow.Author.Needs.{needs}
 use Rattle.board.proofs.wankitare_step.Statement.{statement}
 use Rattle.board.proofs.wankitare_step.Tie as tie

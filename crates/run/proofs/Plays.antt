@@ -17,7 +17,7 @@ use Rattle.rules.proofs.Lists.{rest-lent}
 use Rattle.rules.proofs.Steps.{Done, lawful}
 use Rattle.checks.specs.Checks.{Fits}
 use Rattle.step.specs.Parts.{left}
-use Rattle.calls.specs.Plays.{standing}
+use Rattle.run.specs.Plays.{standing}
 
 -- the script's next two bytes
 next-two : (s : List ℕ) (i : ℕ) → i + 1 < length s → drop i s ≡ at s i ∷ at s (i + 1) ∷ drop (i + 2) s

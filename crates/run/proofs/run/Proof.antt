@@ -1,11 +1,11 @@
 use mathlib.Core.Path.{sym, ap, _∙_}
 use denote.Ref.{now}
 use Rattle.checks.proofs.Fits.{fits}
-use Rattle.calls.specs.Words.{worded, tallied}
-use Rattle.calls.proofs.Firsts.{run-unfit, odd, even}
+use Rattle.run.specs.Words.{worded, tallied}
+use Rattle.run.proofs.Firsts.{run-unfit, odd, even}
 use borrow.Author.Needs.{needs}
-use Rattle.calls.proofs.run.Statement.{statement}
-use Rattle.calls.proofs.run.Tie as tie
+use Rattle.run.proofs.run.Statement.{statement}
+use Rattle.run.proofs.run.Tie as tie
 
 returns : tie.Need-returns
 returns c =

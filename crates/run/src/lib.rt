@@ -12,7 +12,7 @@ ghost use Rattle.rules.specs.Bus.{images};
 ghost use Rattle.rules.specs.Run.{start, play, runOf};
 ghost use Rattle.checks.specs.Checks.{Fits};
 ghost use Rattle.step.specs.Parts.{left};
-ghost use Rattle.calls.specs.Words.{worded, tallied};
+ghost use Rattle.run.specs.Words.{worded, tallied};
 
 // Puts down the steps done and the accesses listed.
 fn tell(tally: &mut [u64], steps: usize, listed: usize)

@@ -8,12 +8,12 @@ use Rattle.rules.specs.Bus.{images}
 use Rattle.rules.specs.Run.{start, play}
 use Rattle.rules.proofs.Lists.{rest-back}
 use Rattle.checks.specs.Checks.{Fits}
-use Rattle.calls.specs.Plays.{standing}
-use Rattle.calls.specs.Words.{worded, tallied}
-use Rattle.calls.proofs.Plays.{lent, goes-on, still-fits, still-room, stops, ends}
+use Rattle.run.specs.Plays.{standing}
+use Rattle.run.specs.Words.{worded, tallied}
+use Rattle.run.proofs.Plays.{lent, goes-on, still-fits, still-room, stops, ends}
 use borrow.Author.Needs.{needs}
-use Rattle.calls.proofs.play.Statement.{statement}
-use Rattle.calls.proofs.play.Tie as tie
+use Rattle.run.proofs.play.Statement.{statement}
+use Rattle.run.proofs.play.Tie as tie
 
 record Running (state₀ image₀ script accesses₀ state image accesses : List ℕ) (banks i listed : ℕ) : Type 0 where
   even : i % 2 ≡ 0

@@ -23,8 +23,8 @@ use Rattle.checks.specs.declared.Checked.the-variants as checked
 use Rattle.checks.specs.Checks.{fitOf}
 use Rattle.checks.proofs.Fits.{fits, unfit}
 use Rattle.step.specs.Parts.{left}
-use Rattle.calls.specs.Words.{worded, tallied}
-use Rattle.calls.proofs.Firsts.{run-unfit, even}
+use Rattle.run.specs.Words.{worded, tallied}
+use Rattle.run.proofs.Firsts.{run-unfit, even}
 
 -- what a run of that step answers
 abbrev alone : StepAnswer → RunAnswer

@@ -3,7 +3,7 @@ use Prim.Native.Nat.{ℕ}
 use mathlib.Core.Path.{sym, ap, _∙_}
 use mathlib.Core.List.{List}
 use Rattle.rules.specs.Step.{Outcome}
-use Rattle.calls.proofs as its
+use Rattle.run.proofs as its
 use Rattle.unique.proofs.General.{Unique}
 
 -- each in the place of its parameter

@@ -1,8 +1,8 @@
 use denote.Ref.{now}
-use Rattle.calls.proofs.Tally.{filled}
+use Rattle.run.proofs.Tally.{filled}
 use borrow.Author.Needs.{needs}
-use Rattle.calls.proofs.tell.Statement.{statement}
-use Rattle.calls.proofs.tell.Tie as tie
+use Rattle.run.proofs.tell.Statement.{statement}
+use Rattle.run.proofs.tell.Tie as tie
 
 returns : tie.Need-returns
 returns c = filled (now (c .args .tally)) _ _ (c .pre)

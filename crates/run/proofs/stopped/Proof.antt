@@ -1,6 +1,6 @@
 use borrow.Author.Needs.{needs}
-use Rattle.calls.proofs.stopped.Statement.{statement}
-use Rattle.calls.proofs.stopped.Tie as tie
+use Rattle.run.proofs.stopped.Statement.{statement}
+use Rattle.run.proofs.stopped.Tie as tie
 
 returns : tie.Need-returns
 returns c = λ j. (c .refusal-word .ensures j, c .before .tell .ensures j)
