@@ -3,7 +3,7 @@ use Prim.Native.Nat.{ℕ, zero, suc, _+_, _≤_}
 use native.Mathlib.Omega.{arith}
 use mathlib.Core.Path.{_≡_, refl, ap}
 use mathlib.Core.Bool.{Bool, true, false}
-use mathlib.Core.List.{_++_}
+use mathlib.Core.List.{List, [], _∷_, _++_}
 use lib.ListN.{length}
 use Rattle.rules.specs.Basics.{if_then_else_}
 use Rattle.rules.specs.Cycles.{Bank, Cycles, done, read, write, _>>=_, Device, Access, Ran, listed, run}
@@ -26,6 +26,19 @@ unfolding run
 run-keeps d P k (done a) w h = h
 run-keeps d P k (read b p f) w h = run-keeps d P k (f (d .look w b p)) w h
 run-keeps d P k (write b p v t) w h = run-keeps d P k t (d .stored w b p v) (k w b p v h)
+
+abbrev pub Each : {A : Type 0} → (A → Type 0) → List A → Type 0
+Each Q [] = Unit {0}
+Each Q (x ∷ l) = Q x × Each Q l
+
+-- what holds of every bank while P does, holds of every bank listed
+pub run-lists : {W A : Type 0} (d : Device W) (P : W → Type 0) → ((w : W) (b : Bank) (p v : ℕ) → P w → P (d .stored w b p v)) →
+    (Q : ℕ → Type 0) → ((w : W) (b : Bank) → P w → Q (d .bank w b)) →
+    (t : Cycles A) (w : W) → P w → Each (λ (a : Access). Q (a .bank)) (run d t w .list)
+unfolding run
+run-lists d P k Q q (done a) w h = tt
+run-lists d P k Q q (read b p f) w h = (q w b h, run-lists d P k Q q (f (d .look w b p)) w h)
+run-lists d P k Q q (write b p v t) w h = (q w b h, run-lists d P k Q q t (d .stored w b p v) (k w b p v h))
 
 -- a tree of at most n accesses
 abbrev pub Most : {A : Type 0} → ℕ → Cycles A → Type 0

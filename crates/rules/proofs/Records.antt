@@ -13,14 +13,14 @@ use Rattle.rules.specs.declared.Flags.{Flags}
 use Rattle.rules.specs.declared.State.{State}
 use Rattle.rules.specs.declared.Bus.{Bus}
 use Rattle.rules.specs.Basics.{if_then_else_, bit, at, address}
-use Rattle.rules.specs.Cycles.{Bank}
+use Rattle.rules.specs.Cycles.{Bank, execution, indirect, Access}
 use Rattle.rules.specs.Flags.{byteOf, flagsOf}
 use Rattle.rules.specs.Interrupts.{Event, res, nmi, irq, execute, nmiOf, cyclesOf}
-use Rattle.rules.specs.Bus.{is6502, is6508, is6509, Memory, World, world, narrow, first, second, byte, cellOf, imageAt, kept, stored, isProtected, resetBus, board}
+use Rattle.rules.specs.Bus.{is6502, is6508, is6509, Memory, World, world, narrow, first, second, byte, cellOf, imageAt, selected, kept, stored, isProtected, resetBus, board}
 use Rattle.rules.specs.Record.{long, stateOf, recordOf, wellFormed, partFits, flagsFit, registerFits, levelFits, pagesFit}
 use Rattle.rules.specs.Step.{linesFit, busAt, ranOf}
 use Rattle.rules.proofs.Tests.{and-left, and-right, all, all-at, if-case}
-use Rattle.rules.proofs.Cycles.{run-keeps}
+use Rattle.rules.proofs.Cycles.{run-keeps, Each, run-lists}
 
 -- what a well-formed record says
 pub record Formed (r : List ℕ) : Type 0 where
@@ -196,6 +196,27 @@ module _ {M : Type 0} (memory : Memory M) (k c : ℕ) where
   pub ran-fit : (e : Event) (u : State) (m : M) → Fit k c (u .bus) → Fit k c (ranOf memory e u m .after .bus)
   ran-fit e u m f =
       run-keeps (board memory) (λ (w : World M). Fit k c (w .bus)) stored-fit (cyclesOf e (u .cpu)) (world (busAt e (u .bus)) m) (bus-fit e (u .bus) f)
+
+  four-bits : (v : ℕ) → registerFits k v ≡ true → is6509 k ≡ true → v < 16
+  four-bits v h e = go (is6502 k) h
+    where
+      go : (b : Bool) → (if b then eqb v 0 else if is6509 k then leb v 15 else true) ≡ true → v < 16
+      go true q = omega (arith, eqb-true v 0 q)
+      go false q = omega (arith, leb-true v 15 (rw e at q))
+
+  selected-small : (w : World M) (n : Bank) → Fit k c (w .bus) → selected (w .bus) n < 16
+  unfolding selected
+  selected-small w n f = if-case (λ (v : ℕ). v < 16) (is6509 (w .bus .part)) _ _ (λ e. go n (rw (f .part) at e)) (λ e. omega arith)
+    where
+      go : (n : Bank) → is6509 k ≡ true → elim n [ execution ↦ w .bus .first | indirect ↦ w .bus .second ] < 16
+      go execution e = four-bits (w .bus .first) (f .first) e
+      go indirect e = four-bits (w .bus .second) (f .second) e
+
+  -- "bank (one hexadecimal digit)": every bank that a step lists is one
+  pub banks-shown : (e : Event) (u : State) (m : M) → Fit k c (u .bus) → Each (λ (a : Access). a .bank < 16) (ranOf memory e u m .list)
+  banks-shown e u m f =
+      run-lists (board memory) (λ (w : World M). Fit k c (w .bus)) stored-fit (λ b. b < 16) selected-small
+      (cyclesOf e (u .cpu)) (world (busAt e (u .bus)) m) (bus-fit e (u .bus) f)
 
 -- the NMI level that a step stores
 pub level-fits : (k lines pins : ℕ) → linesFit k lines pins ≡ true → levelFits k (bit (nmiOf lines)) ≡ true
