@@ -126,6 +126,7 @@ fn single(n: u8, low: u8, high: u8) -> Instruction
     }
 }
 
+// The operations that have a mode, in the table's order.
 fn with_mode(n: u8, m: Mode) -> Instruction
     ensures { λ r. ⌜ r ≡ withMode n m ⌝ }
 {
@@ -143,7 +144,7 @@ pub fn instruction_of(entry: u8, low: u8, high: u8) -> Instruction
     ensures { λ r. ⌜ r ≡ made entry low high ⌝ }
 {
     if entry < table::ASL_A {
-        return with_mode(entry % 21, mode(entry / 21, low, high));
+        return with_mode(entry % table::MODE, mode(entry / table::MODE, low, high));
     }
     if entry < table::CLC {
         return Instruction::Accumulator(changing(entry - table::ASL_A));

@@ -53,6 +53,9 @@ const DEC: u8 = 19;
 
 const INC: u8 = 20;
 
+// From one mode to the next: as many as the operations above.
+pub const MODE: u8 = 21;
+
 // The modes: #, z, z,X, z,Y, a, a,X, a,Y, (z,X), (z),Y, and (z),Y in the indirect bank.
 const IM: u8 = 0;
 
