@@ -9,6 +9,17 @@ pub mod Steps
 pub mod Runs
 pub mod Restarts
 pub mod Admissions
+pub mod Stacks
+pub mod Marks
+pub mod Ends
+pub mod Calm
+pub mod Places
+pub mod Plain
+pub mod Shapes
+pub mod Performs
+pub mod Events
+pub mod Safe
+pub mod SafeRuns
 pub mod Images
 pub mod Opened
 pub mod Examples

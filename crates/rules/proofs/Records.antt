@@ -102,7 +102,7 @@ bit-is : (b : Bool) (n : ℕ) → n ≡ bit b → eqb n 1 ≡ b
 bit-is true n e = rw e
 bit-is false n e = rw e
 
-bit-most : (b : Bool) → bit b ≤ 1
+pub bit-most : (b : Bool) → bit b ≤ 1
 bit-most true = omega arith
 bit-most false = omega arith
 

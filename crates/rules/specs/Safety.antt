@@ -1,5 +1,5 @@
 -- Demand 3: what an accepted image promises of every run.
-use Prim.Native.Nat.{ℕ, zero, suc, _+_, _/_, _<_, _≤_}
+use Prim.Native.Nat.{ℕ, zero, suc, _+_, _*_, _/_, _<_, _≤_}
 use mathlib.Core.Path.{_≡_}
 use mathlib.Core.Bool.{true, false, _&&_}
 use mathlib.Core.List.{List, [], _∷_}
@@ -10,6 +10,7 @@ use Rattle.rules.specs.declared.Instruction.{Instruction}
 use Rattle.rules.specs.declared.Instruction.the-variants.{Read, Store, Change, Accumulator, Implied, Branch, Jump, JumpIndirect, Jsr, Rts, Rti, Brk, Php, Plp, Pha, Pla, Txs, Cli}
 use Rattle.rules.specs.declared.StepAnswer.{StepAnswer}
 use Rattle.rules.specs.declared.StepAnswer.the-variants.{Stepped}
+use Rattle.rules.specs.declared.RunAnswer.the-variants.{Played}
 use Rattle.rules.specs.declared.Verdict.the-variants.{Accepted}
 use Rattle.rules.specs.Basics.{if_then_else_, at, address, sum16}
 use Rattle.rules.specs.Opcodes.{decode, ofInstruction}
@@ -18,6 +19,7 @@ use Rattle.rules.specs.Interrupts.{resOf, nmiOf, Event, res, nmi, irq, e
 use Rattle.rules.specs.Bus.{images, isProtected}
 use Rattle.rules.specs.Record.{wellFormed}
 use Rattle.rules.specs.Step.{Outcome, step, stateNow, eventNow, opcodeOf}
+use Rattle.rules.specs.Run.{runOf}
 use Rattle.rules.specs.Admission.{markAt, marksIn, admit}
 
 -- "The bytes on the stack, for demand 3, are a whole number that never wraps": as how many were pushed and how many pulled since it was 0.
@@ -139,14 +141,34 @@ Steps c map r m k (g ∷ gs) =
     Unaltered c m (g .image) → Proper g →
     Fine r g map k × Steps c map (outcome r g .state) (outcome r g .image) (stackedAfter (effect r g) k) gs
 
--- Of every well-formed 6502 record with these protected pages, and every sequence of steps of which the first is a reset.
+-- "every well-formed 6502 record with these protected pages"
+pub record Admissible (c : ℕ) (r : List ℕ) : Type 0 where
+  pub size : length r ≡ 16
+  pub bytes : (k : ℕ) → at r k < 256
+  pub formed : wellFormed r ≡ true
+  pub part : at r 0 ≡ 2
+  pub pages : at r 11 ≡ c
+
+-- every sequence of steps from such a record, of which the first is a reset
 abbrev pub Safe : List ℕ → ℕ → List ℕ → Type 0
 Safe m c map =
-    (r : List ℕ) → length r ≡ 16 → ((k : ℕ) → at r k < 256) → wellFormed r ≡ true → at r 0 ≡ 2 → at r 11 ≡ c →
-    (g : Given) (gs : List Given) → resOf (g .lines) ≡ true → Steps c map r m (record { pushed = 0; pulled = 0 }) (g ∷ gs)
+    (r : List ℕ) → Admissible c r → (g : Given) (gs : List Given) → resOf (g .lines) ≡ true →
+    Steps c map r m (record { pushed = 0; pulled = 0 }) (g ∷ gs)
 
 -- the demand: what admission accepts is safe
 abbrev pub Demand3 : Type 0
-Demand3 =
-    (m : List ℕ) (c : ℕ) (map : List ℕ) → ((p : ℕ) → at m p < 256) → ((p : ℕ) → at map p < 256) → admit images m c map ≡ Accepted →
-    Safe m c map
+Demand3 = (m : List ℕ) (c : ℕ) (map : List ℕ) → admit images m c map ≡ Accepted → Safe m c map
+
+-- The same of a run: its script has lines and pins that the part has, NMI quiet,
+abbrev pub ProperScript : List ℕ → Type 0
+ProperScript [] = Unit {0}
+ProperScript (lines ∷ []) = ⊥
+ProperScript (lines ∷ pins ∷ script) = (lines < 8) × (nmiOf lines ≡ false) × (pins ≡ 0) × ProperScript script
+
+-- its first step is a reset, and there is room for all steps, 56 bytes for two of the script: then it plays its script to the end.
+abbrev pub PlaysOut : List ℕ → ℕ → List ℕ → Type 0
+PlaysOut m c map =
+    (r : List ℕ) → Admissible c r → ((p : ℕ) → at m p < 256) → (lines pins : ℕ) (rest buffer : List ℕ) → resOf lines ≡ true →
+    let script = lines ∷ pins ∷ rest in
+    ProperScript script → 28 * length script ≤ length buffer →
+    (listed : ℕ) × (runOf images r m script buffer .answer ≡ Played (length script / 2) listed)

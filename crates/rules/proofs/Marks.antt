@@ -1,0 +1,136 @@
+-- What an accepted map says, rule by rule.
+use Prim.Native.Nat.{ℕ, zero, suc, _+_, _-_, _*_, _/_, _%_, _<_, _≤_}
+use native.Mathlib.Omega.{arith}
+use mathlib.Core.Path.{_≡_, refl, ap, _∙_}
+use mathlib.Core.Bool.{Bool, true, false, _&&_, _||_, false≢true}
+use mathlib.Core.List.{List, [], _∷_, _++_}
+use borrow.Author.Tests.{eqb-true, leb-true}
+use lib.Dec.{eqb, leb}
+use lib.ListN.{length}
+use Rattle.rules.specs.declared.Verdict.the-variants.{Accepted}
+use Rattle.rules.specs.Bus.{images}
+use Rattle.rules.specs.declared.Refusal.the-variants.{Vectors}
+use Rattle.rules.specs.Answers.{Test, _unless_}
+use Rattle.rules.specs.Admission.{Mark, main, handler, markAt, marksIn, some, isMark, ofRecords, formTests, wordAt, inputFits, vectorsHold, ruleTests, admit}
+use Rattle.rules.proofs.Tests.{and-left, and-right, Hold}
+use Rattle.rules.proofs.Admissions.{accepted}
+use Rattle.rules.proofs.Stacks.{Leads}
+
+pub hold-left : (s t : List Test) → Hold (s ++ t) → Hold s
+hold-left [] t h = tt
+hold-left (x ∷ s) t (e, h) = (e, hold-left s t h)
+
+pub hold-right : (s t : List Test) → Hold (s ++ t) → Hold t
+hold-right [] t h = h
+hold-right (x ∷ s) t (e, h) = hold-right s t h
+
+-- where all hold of n records from i on, all hold of each
+records-hold : (f : ℕ → List Test) (i n : ℕ) → Hold (ofRecords f i n) → (j : ℕ) → j < n → Hold (f (i + j))
+records-hold f i zero h j l = absurd (omega arith)
+records-hold f i (suc n) h zero l = let e : i + 0 ≡ i = omega arith in rw e (hold-left (f i) (ofRecords f (suc i) n) h)
+records-hold f i (suc n) h (suc j) l =
+    let e : i + suc j ≡ suc i + j = omega arith in rw e (records-hold f (suc i) n (hold-right (f i) (ofRecords f (suc i) n) h) j (omega arith))
+
+pub each-holds : (f : ℕ → List Test) (n : ℕ) → Hold (ofRecords f 0 n) → (i : ℕ) → i < n → Hold (f i)
+each-holds f n h i l = let e : 0 + i ≡ i = omega arith in rw e at (records-hold f 0 n h i l)
+
+-- one of the first n marks, as f says
+pub record Found (f : Mark → Bool) (map : List ℕ) (n : ℕ) : Type 0 where
+  pub i : ℕ
+  pub within : i < n
+  pub is : f (markAt map i) ≡ true
+
+pub some-found : (f : Mark → Bool) (map : List ℕ) (n : ℕ) → some f map n ≡ true → Found f map n
+some-found f map zero h = absurd (false≢true h)
+some-found f map (suc n) h = go (some-found f map n) (f (markAt map n)) refl h
+  where
+    go : (some f map n ≡ true → Found f map n) → (b : Bool) → f (markAt map n) ≡ b → (b || some f map n) ≡ true → Found f map (suc n)
+    go rest true e h = record { i = n; within = omega arith; is = e }
+    go rest false e h = let r = rest h in record { i = r .i; within = omega (arith, r .within); is = r .is }
+
+-- a mark that was found, with what the test of its need says
+pub leads : (map : List ℕ) (p kind height d e : ℕ) (i : ℕ) → i < marksIn map → isMark p kind height (markAt map i) ≡ true →
+    markAt map i .need + d ≤ e → Leads map p kind height d e
+leads map p kind height d e i w h n =
+    let s = markAt map i in
+    let a = eqb (s .address) p in
+    let k = eqb (s .kind) kind in
+    let t = eqb (s .height) height in
+    record {
+      i = i;
+      within = w;
+      address = eqb-true _ _ (and-left a k (and-left (a && k) t h));
+      kind = eqb-true _ _ (and-right a k (and-left (a && k) t h));
+      height = eqb-true _ _ (and-right (a && k) t h);
+      need = n;
+    }
+
+pub leads-to : (map : List ℕ) (p kind height d e : ℕ) →
+    some (λ s. isMark p kind height s && leb (s .need + d) e) map (marksIn map) ≡ true → Leads map p kind height d e
+leads-to map p kind height d e h =
+    let r = some-found (λ s. isMark p kind height s && leb (s .need + d) e) map (marksIn map) h in
+    let s = markAt map (r .i) in
+    leads map p kind height d e (r .i) (r .within) (and-left (isMark p kind height s) (leb (s .need + d) e) (r .is))
+    (leb-true _ _ (and-right (isMark p kind height s) (leb (s .need + d) e) (r .is)))
+
+-- "accepts exactly when all the rules above hold": an image and a map of which they do
+pub record Admitted (m : List ℕ) (c : ℕ) (map : List ℕ) : Type 0 where
+  pub size : length m ≡ 65536
+  pub least : 1 ≤ c
+  pub most : c ≤ 254
+  pub rules : (i : ℕ) → i < marksIn map → Hold (ruleTests images m c map i)
+  -- the needs of the main program and of the handler
+  pub N : ℕ
+  pub H : ℕ
+  pub starts : Leads map (wordAt images m c map 0xFFFC) main 0 0 N
+  pub serves : Leads map (wordAt images m c map 0xFFFE) handler 0 0 H
+  pub room : N + H + 3 ≤ 256
+
+module _ (m : List ℕ) (c : ℕ) (map : List ℕ) where
+  abbrev n : ℕ
+  n = marksIn map
+
+  abbrev isMain : Mark → Bool
+  isMain r = isMark (wordAt images m c map 0xFFFC) main 0 r
+
+  abbrev isHandler : Mark → Bool
+  isHandler h = isMark (wordAt images m c map 0xFFFE) handler 0 h
+
+  abbrev serves : Mark → Mark → Bool
+  serves r h = isHandler h && leb (r .need + h .need + 3) 256
+
+  input : inputFits images m c map ≡ true → (length m ≡ 65536) × (1 ≤ c) × (c ≤ 254)
+  input h =
+      let size = eqb (length m) 65536 in
+      let least = leb 1 c in
+      let most = leb c 254 in
+      let some = leb 1 (length map) in
+      let few = leb (length map) 65536 in
+      let t = and-left (size && least && most) some (and-left (size && least && most && some) few (and-left _ (eqb (length map % 8) 0) h)) in
+      let u = and-left (size && least) most t in
+      (eqb-true _ _ (and-left size least u), leb-true _ _ (and-right size least u), leb-true _ _ (and-right (size && least) most t))
+
+  pub admitted : admit images m c map ≡ Accepted → Admitted m c map
+  unfolding vectorsHold
+  admitted e =
+      let t = accepted images m c map e in
+      let later = Vectors unless vectorsHold images m c map ∷ ofRecords (ruleTests images m c map) 0 n in
+      let t′ = hold-right (ofRecords (formTests map) 0 n) later (t .1) in
+      let r = some-found (λ r. isMain r && some (serves r) map n) map n (t′ .0) in
+      let main-mark = markAt map (r .i) in
+      let h = some-found (serves main-mark) map n (and-right (isMain main-mark) (some (serves main-mark) map n) (r .is)) in
+      let mark = markAt map (h .i) in
+      let fits : leb (main-mark .need + mark .need + 3) 256 ≡ true = and-right (isHandler mark) _ (h .is) in
+      let i = input (t .0) in
+      record {
+        size = i .0;
+        least = i .1;
+        most = i .2;
+        rules = each-holds (ruleTests images m c map) n (t′ .1);
+        N = main-mark .need;
+        H = mark .need;
+        starts =
+            leads map _ main 0 0 _ (r .i) (r .within) (and-left (isMain main-mark) (some (serves main-mark) map n) (r .is)) (omega arith);
+        serves = leads map _ handler 0 0 _ (h .i) (h .within) (and-left (isHandler mark) (leb (main-mark .need + mark .need + 3) 256) (h .is)) (omega arith);
+        room = leb-true _ _ fits;
+      }

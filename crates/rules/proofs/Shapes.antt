@@ -1,0 +1,179 @@
+-- What is asked of the decoder: how an entry takes its operand, whichever entries there are.
+use Prim.Native.Nat.{ℕ, zero, suc, _+_, _<_}
+use native.Mathlib.Omega.{arith}
+use mathlib.Core.Path.{_≡_, refl, sym, ap, _∙_}
+use mathlib.Core.Bool.{Bool, true, false, false≢true}
+use mathlib.Core.List.{List, [], _∷_}
+use lib.Dec.{eqb}
+use lib.ListN.{length, drop, replicate}
+use Rattle.rules.specs.declared.Cpu.{Cpu}
+use Rattle.rules.specs.declared.Mode.{Mode}
+use Rattle.rules.specs.declared.Mode.the-variants.{Immediate, Zero, ZeroX, ZeroY, Absolute, AbsoluteX, AbsoluteY, IndirectX, IndirectY, IndirectBankY}
+use Rattle.rules.specs.declared.Instruction.{Instruction}
+use Rattle.rules.specs.declared.Instruction.the-variants.{Read, Store, Change, Accumulator, Implied, Branch, Jump, JumpIndirect, Jsr, Rts, Rti, Brk, Php, Plp, Pha, Pla, Txs, Cli}
+use Rattle.rules.specs.Basics.{if_then_else_, at, address, sum16}
+use Rattle.rules.specs.Cycles.{_>>=_}
+use Rattle.rules.specs.Opcodes.{Entry, undefined, alone, byte, word, late, Row, rows, among, decode, isDefined, sizeOf, ofInstruction}
+use Rattle.rules.specs.Operations.{withPc, perform, operate, instruction, next}
+use Rattle.rules.proofs.Tests.{if-case}
+use Rattle.rules.proofs.Ends.{ends}
+use Rattle.rules.proofs.Places.{Small}
+
+-- That entries take their operands rightly is said by numbers, so that it is computed of all rows at once: what an instruction made of the
+-- operand v gives back is v, which is its operand where the operand's size matters, and one more where something is wrong. An address (wide)
+-- is no data and no address of page zero, and only JSR is late.
+
+abbrev pub modeGives : Bool → ℕ → Mode → ℕ
+modeGives wide v (Immediate w) = if wide then suc v else w
+modeGives wide v (Zero w) = if wide then suc v else w
+modeGives wide v (ZeroX w) = v
+modeGives wide v (ZeroY w) = v
+modeGives wide v (Absolute w) = v
+modeGives wide v (AbsoluteX w) = w
+modeGives wide v (AbsoluteY w) = w
+modeGives wide v (IndirectX w) = v
+modeGives wide v (IndirectY w) = v
+modeGives wide v (IndirectBankY w) = v
+
+abbrev pub gives : Bool → ℕ → Instruction → ℕ
+gives wide v (Read o d) = modeGives wide v d
+gives wide v (Store o d) = modeGives wide v d
+gives wide v (Change o d) = modeGives wide v d
+gives wide v (Accumulator o) = v
+gives wide v (Implied o) = v
+gives wide v (Branch t o) = v
+gives wide v (Jump a) = v
+gives wide v (JumpIndirect a) = v
+gives wide v (Jsr low) = suc v
+gives wide v Rts = v
+gives wide v Rti = v
+gives wide v Brk = v
+gives wide v Php = v
+gives wide v Plp = v
+gives wide v Pha = v
+gives wide v Pla = v
+gives wide v Txs = v
+gives wide v Cli = v
+
+-- the low operand of a JSR whose target's low byte is v
+abbrev pub lateGives : ℕ → Instruction → ℕ
+lateGives v (Read o d) = suc v
+lateGives v (Store o d) = suc v
+lateGives v (Change o d) = suc v
+lateGives v (Accumulator o) = suc v
+lateGives v (Implied o) = suc v
+lateGives v (Branch t o) = suc v
+lateGives v (Jump a) = suc v
+lateGives v (JumpIndirect a) = suc v
+lateGives v (Jsr low) = low
+lateGives v Rts = suc v
+lateGives v Rti = suc v
+lateGives v Brk = suc v
+lateGives v Php = suc v
+lateGives v Plp = suc v
+lateGives v Pha = suc v
+lateGives v Pla = suc v
+lateGives v Txs = suc v
+lateGives v Cli = suc v
+
+abbrev pub entryGives : Entry → ℕ → ℕ
+entryGives undefined v = v
+entryGives (alone i) v = gives false v i
+entryGives (byte f) v = gives false v (f v)
+entryGives (word f) v = gives true v (f v)
+entryGives (late f) v = lateGives v (f v)
+
+abbrev rowsGive : List Row → ℕ → List ℕ
+rowsGive [] v = []
+rowsGive (r ∷ rs) v = entryGives (r .entry) v ∷ rowsGive rs v
+
+rows-give : (v : ℕ) → rowsGive rows v ≡ replicate 151 v
+rows-give v = refl
+
+among-gives : (l : List Row) (n k v : ℕ) → rowsGive l v ≡ replicate k v → entryGives (among l n) v ≡ v
+among-gives [] n k v h = refl
+among-gives (r ∷ l) n zero v h = let e : suc (length (rowsGive l v)) ≡ 0 = ap length h in absurd (omega arith)
+among-gives (r ∷ l) n (suc k) v h =
+    if-case (λ (e : Entry). entryGives e v ≡ v) (eqb n (r .opcode)) _ _ (λ e. ap (λ (x : List ℕ). at x 0) h)
+    (λ e. among-gives l n k v (ap (drop 1) h))
+
+pub decode-gives : (n v : ℕ) → entryGives (decode n) v ≡ v
+unfolding decode
+decode-gives n v = among-gives rows n 151 v (rows-give v)
+
+-- so the size of an operand is its mode's
+pub small : (wide : Bool) (v : ℕ) (d : Mode) → modeGives wide v d ≡ v → v < (if wide then 65536 else 256) → Small d
+small true v (Immediate w) h n = absurd (omega arith)
+small false v (Immediate w) h n = omega arith
+small true v (Zero w) h n = absurd (omega arith)
+small false v (Zero w) h n = omega arith
+small wide v (ZeroX w) h n = tt
+small wide v (ZeroY w) h n = tt
+small wide v (Absolute w) h n = tt
+small true v (AbsoluteX w) h n = omega arith
+small false v (AbsoluteX w) h n = omega arith
+small true v (AbsoluteY w) h n = omega arith
+small false v (AbsoluteY w) h n = omega arith
+small wide v (IndirectX w) h n = tt
+small wide v (IndirectY w) h n = tt
+small wide v (IndirectBankY w) h n = tt
+
+pub late-is : (v : ℕ) (i : Instruction) → lateGives v i ≡ v → i ≡ Jsr v
+late-is v (Read o d) h = absurd (omega arith)
+late-is v (Store o d) h = absurd (omega arith)
+late-is v (Change o d) h = absurd (omega arith)
+late-is v (Accumulator o) h = absurd (omega arith)
+late-is v (Implied o) h = absurd (omega arith)
+late-is v (Branch t o) h = absurd (omega arith)
+late-is v (Jump a) h = absurd (omega arith)
+late-is v (JumpIndirect a) h = absurd (omega arith)
+late-is v (Jsr low) h = ap Jsr h
+late-is v Rts h = absurd (omega arith)
+late-is v Rti h = absurd (omega arith)
+late-is v Brk h = absurd (omega arith)
+late-is v Php h = absurd (omega arith)
+late-is v Plp h = absurd (omega arith)
+late-is v Pha h = absurd (omega arith)
+late-is v Pla h = absurd (omega arith)
+late-is v Txs h = absurd (omega arith)
+late-is v Cli h = absurd (omega arith)
+
+-- the instruction that an entry makes of the two bytes after the opcode
+abbrev pub made : Entry → ℕ → ℕ → Instruction
+made e low high = ofInstruction (λ i. i) Brk e low high
+
+pub made-is : {A : Type 0} (f : Instruction → A) (x : A) (e : Entry) (low high : ℕ) → isDefined e ≡ true →
+    ofInstruction f x e low high ≡ f (made e low high)
+made-is f x undefined low high h = absurd (false≢true h)
+made-is f x (alone i) low high h = refl
+made-is f x (byte g) low high h = refl
+made-is f x (word g) low high h = refl
+made-is f x (late g) low high h = refl
+
+-- how many bytes are fetched before the instruction's own accesses
+abbrev pub fetched : Entry → ℕ
+fetched undefined = 1
+fetched (alone i) = 1
+fetched (byte f) = 2
+fetched (word f) = 3
+fetched (late f) = 2
+
+pub on-one : (p k : ℕ) → sum16 (sum16 p k) 1 ≡ sum16 p (suc k)
+on-one p k = omega arith
+
+operate-ends : (c : ℕ) (u : Cpu) (m : List ℕ) (e : Entry) → isDefined e ≡ true →
+    ends c (operate e (next u)) m ≡
+    ends c (perform (made e (at m (sum16 (u .pc) 1)) (at m (sum16 (u .pc) 2))) (withPc (sum16 (u .pc) (fetched e)) u)) m
+unfolding operate ends _>>=_
+operate-ends c u m undefined h = absurd (false≢true h)
+operate-ends c u m (alone i) h = refl
+operate-ends c u m (byte f) h = rw (on-one (u .pc) 1)
+operate-ends c u m (word f) h = rw (on-one (u .pc) 1, on-one (u .pc) 2)
+operate-ends c u m (late f) h = rw (on-one (u .pc) 1)
+
+-- the instruction at PC ends as what it was made into
+pub instruction-ends : (c : ℕ) (u : Cpu) (m : List ℕ) (e : Entry) → decode (at m (u .pc)) ≡ e → isDefined e ≡ true →
+    ends c (instruction u) m ≡
+    ends c (perform (made e (at m (sum16 (u .pc) 1)) (at m (sum16 (u .pc) 2))) (withPc (sum16 (u .pc) (fetched e)) u)) m
+unfolding instruction ends _>>=_
+instruction-ends c u m e d h = ap (λ (x : Entry). ends c (operate x (next u)) m) d ∙ operate-ends c u m e h
