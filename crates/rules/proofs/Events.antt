@@ -1,14 +1,15 @@
 -- Every step of an admitted image, whatever it takes first: RES, IRQ, or the instruction at PC.
-use Prim.Native.Nat.{ℕ, suc, _+_, _-_, _*_, _/_, _%_, _<_, _≤_}
+use Prim.Native.Nat.{ℕ, _+_, _-_, _/_, _%_, _<_, _≤_}
 use native.Mathlib.Omega.{arith}
 use mathlib.Core.Path.{_≡_, refl, sym, ap, _∙_, subst}
 use mathlib.Core.Bool.{Bool, true, false, not, _&&_, false≢true}
 use mathlib.Core.List.{List, [], _∷_}
 use borrow.Author.Tests.{le-leb, leb-true}
-use lib.Dec.{eqb, leb}
+use lib.Dec.{leb}
 use lib.ListN.{length, set, length-set}
 use Rattle.rules.specs.declared.Cpu.{Cpu}
 use Rattle.rules.specs.declared.Instruction.{Instruction}
+use Rattle.rules.specs.declared.Instruction.the-variants.{Jsr}
 use Rattle.rules.specs.Basics.{if_then_else_, at, address, sum16}
 use Rattle.rules.specs.Cycles.{_>>=_}
 use Rattle.rules.specs.Flags.{byteOf}
@@ -25,8 +26,8 @@ use Rattle.rules.proofs.Ends.{End, ends}
 use Rattle.rules.proofs.Calm.{set-byte}
 use Rattle.rules.proofs.Places.{Bytes}
 use Rattle.rules.proofs.Plain.{p-byte}
-use Rattle.rules.proofs.Shapes.{gives, decode-gives, on-one, late-is, made, made-is, fetched, instruction-ends}
-use Rattle.rules.proofs.Performs.{Ready, Done, few, stack-open, stack-page, set-code, v, mark, n, performs, does-jsr}
+use Rattle.rules.proofs.Shapes.{gives, decode-gives, decode-late, on-one, made, made-is, fetched, instruction-ends}
+use Rattle.rules.proofs.Performs.{Ready, Done, stack-open, stack-page, set-code, n, performs, does-jsr}
 
 -- a later byte of an instruction in protected pages is protected too
 protected-on : (c a j : ℕ) → isProtected c a ≡ true → a + j < 65536 → isProtected c (sum16 a j) ≡ true
@@ -118,7 +119,7 @@ module _ (m₀ : List ℕ) (c : ℕ) (map : List ℕ) (ad : Admitted m₀ c map)
             let x = address low high in
             whole (word f) h d def refl true x (rw d at (decode-gives (at m₀ a) x)) (omega arith) (rw (same₁, same₂) t)
         go (late f) d h l def t =
-            let call = late-is low (f low) (rw d at (decode-gives (at m₀ a) low)) in
+            let call : f low ≡ Jsr low = rw d at (decode-late (at m₀ a) low) in
             let same = code-here h 1 (omega (arith, leb-true (a + 3) 65536 l)) in
             let p = sum16 (u .pc) 2 in
             let past = on-one (u .pc) 2 ∙ sym (next-is (late f) d) in

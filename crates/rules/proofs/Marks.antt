@@ -1,38 +1,18 @@
 -- What an accepted map says, rule by rule.
-use Prim.Native.Nat.{ℕ, zero, suc, _+_, _-_, _*_, _/_, _%_, _<_, _≤_}
+use Prim.Native.Nat.{ℕ, zero, suc, _+_, _%_, _<_, _≤_}
 use native.Mathlib.Omega.{arith}
-use mathlib.Core.Path.{_≡_, refl, ap, _∙_}
+use mathlib.Core.Path.{_≡_, refl}
 use mathlib.Core.Bool.{Bool, true, false, _&&_, _||_, false≢true}
-use mathlib.Core.List.{List, [], _∷_, _++_}
+use mathlib.Core.List.{List}
 use borrow.Author.Tests.{eqb-true, leb-true}
 use lib.Dec.{eqb, leb}
 use lib.ListN.{length}
 use Rattle.rules.specs.declared.Verdict.the-variants.{Accepted}
 use Rattle.rules.specs.Bus.{images}
-use Rattle.rules.specs.declared.Refusal.the-variants.{Vectors}
-use Rattle.rules.specs.Answers.{Test, _unless_}
-use Rattle.rules.specs.Admission.{Mark, main, handler, markAt, marksIn, some, isMark, ofRecords, formTests, wordAt, inputFits, vectorsHold, ruleTests, admit}
+use Rattle.rules.specs.Admission.{Mark, main, handler, markAt, marksIn, some, isMark, wordAt, inputFits, vectorsHold, ruleTests, admit}
 use Rattle.rules.proofs.Tests.{and-left, and-right, Hold}
 use Rattle.rules.proofs.Admissions.{accepted}
 use Rattle.rules.proofs.Stacks.{Leads}
-
-pub hold-left : (s t : List Test) → Hold (s ++ t) → Hold s
-hold-left [] t h = tt
-hold-left (x ∷ s) t (e, h) = (e, hold-left s t h)
-
-pub hold-right : (s t : List Test) → Hold (s ++ t) → Hold t
-hold-right [] t h = h
-hold-right (x ∷ s) t (e, h) = hold-right s t h
-
--- where all hold of n records from i on, all hold of each
-records-hold : (f : ℕ → List Test) (i n : ℕ) → Hold (ofRecords f i n) → (j : ℕ) → j < n → Hold (f (i + j))
-records-hold f i zero h j l = absurd (omega arith)
-records-hold f i (suc n) h zero l = let e : i + 0 ≡ i = omega arith in rw e (hold-left (f i) (ofRecords f (suc i) n) h)
-records-hold f i (suc n) h (suc j) l =
-    let e : i + suc j ≡ suc i + j = omega arith in rw e (records-hold f (suc i) n (hold-right (f i) (ofRecords f (suc i) n) h) j (omega arith))
-
-pub each-holds : (f : ℕ → List Test) (n : ℕ) → Hold (ofRecords f 0 n) → (i : ℕ) → i < n → Hold (f i)
-each-holds f n h i l = let e : 0 + i ≡ i = omega arith in rw e at (records-hold f 0 n h i l)
 
 -- one of the first n marks, as f says
 pub record Found (f : Mark → Bool) (map : List ℕ) (n : ℕ) : Type 0 where
@@ -114,19 +94,17 @@ module _ (m : List ℕ) (c : ℕ) (map : List ℕ) where
   unfolding vectorsHold
   admitted e =
       let t = accepted images m c map e in
-      let later = Vectors unless vectorsHold images m c map ∷ ofRecords (ruleTests images m c map) 0 n in
-      let t′ = hold-right (ofRecords (formTests map) 0 n) later (t .1) in
-      let r = some-found (λ r. isMain r && some (serves r) map n) map n (t′ .0) in
+      let r = some-found (λ r. isMain r && some (serves r) map n) map n (t .vectors) in
       let main-mark = markAt map (r .i) in
       let h = some-found (serves main-mark) map n (and-right (isMain main-mark) (some (serves main-mark) map n) (r .is)) in
       let mark = markAt map (h .i) in
       let fits : leb (main-mark .need + mark .need + 3) 256 ≡ true = and-right (isHandler mark) _ (h .is) in
-      let i = input (t .0) in
+      let i = input (t .input) in
       record {
         size = i .0;
         least = i .1;
         most = i .2;
-        rules = each-holds (ruleTests images m c map) n (t′ .1);
+        rules = t .records;
         N = main-mark .need;
         H = mark .need;
         starts =

@@ -1,11 +1,11 @@
 -- Each instruction of an admitted image, as its rules let it stand in the map, leaves the stack as the map says.
-use Prim.Native.Nat.{ℕ, suc, _+_, _-_, _/_, _%_, _<_, _≤_}
+use Prim.Native.Nat.{ℕ, _+_, _-_, _/_, _%_, _<_, _≤_}
 use native.Mathlib.Omega.{arith}
-use mathlib.Core.Path.{_≡_, refl, sym, ap, _∙_, subst}
+use mathlib.Core.Path.{_≡_, refl, sym, ap, _∙_}
 use mathlib.Core.Bool.{Bool, true, false, false≢true}
-use mathlib.Core.List.{List, [], _∷_}
+use mathlib.Core.List.{List}
 use borrow.Author.Tests.{lt-leb, leb-true, eq-eqb, eqb-true}
-use lib.Dec.{eqb, leb}
+use lib.Dec.{eqb}
 use lib.ListN.{length, set, length-set}
 use lib.Seq.{getD-set-other}
 use Rattle.rules.specs.declared.Cpu.{Cpu}
@@ -21,14 +21,15 @@ use Rattle.rules.specs.Basics.{if_then_else_, at, address, sum8, sum16}
 use Rattle.rules.specs.Cycles.{Cycles, _>>=_}
 use Rattle.rules.specs.Flags.{byteOf4, flagsOf}
 use Rattle.rules.specs.Addressing.{load, place}
-use Rattle.rules.specs.Operations.{stack, down, withPc, used, registerOf, inside, taken, target, branchTo, push, pull, rts, rti, jsr, perform}
+use Rattle.rules.specs.Operations.{stack, down, withPc, used, taken, target, branchTo, push, pull, rts, rti, jsr, perform}
 use Rattle.rules.specs.Bus.{isProtected, images}
-use Rattle.rules.specs.Admission.{Mark, markAt, marksIn, main, routine, handler, storeTests, next, wordAt, goesOn, isAtZero, rulesOf}
+use Rattle.rules.specs.Admission.{Mark, markAt, main, routine, handler, storeTests, next, wordAt, goesOn, isAtZero, rulesOf}
 use Rattle.rules.specs.Safety.{Stacked, Effect, none, pushes, effectOf, stackedAfter, pushesOf}
 use Rattle.rules.proofs.Tests.{Hold, if-case, and-left, and-right}
 use Rattle.rules.proofs.Stacks.{Stands, Leads, starts, alone, stays, pushes-one, pulls-one, calls, returns, goes-back}
-use Rattle.rules.proofs.Marks.{Admitted, leads-to, hold-left, hold-right}
-use Rattle.rules.proofs.Ends.{written, End, ends}
+use Rattle.rules.proofs.Admissions.{hold-left, hold-right}
+use Rattle.rules.proofs.Marks.{Admitted, leads-to}
+use Rattle.rules.proofs.Ends.{End, ends}
 use Rattle.rules.proofs.Calm.{OffPage, Calm, calm-bind, set-byte, calmly}
 use Rattle.rules.proofs.Places.{Bytes, Small, load-calm, place-calm}
 use Rattle.rules.proofs.Plain.{To, On, used-on, inside-on, same-on, changed-on, changed-good, accumulator-on, register-byte, p-byte}
@@ -89,7 +90,7 @@ module _ (m₀ : List ℕ) (c : ℕ) (map : List ℕ) (ad : Admitted m₀ c map)
         let to = r .value .to in
         let d = ends c t m .value in
         let s = stays map (ad .N) (u .s) (u .p .i) (u .pc) m k v (d .p .i) (r .value .n) (ends c t m .image) (r .value .follows)
-            (λ h. to .masks (v .masked h)) (r .kept .stackPage) in
+        (λ h. to .masks (v .masked h)) (r .kept .stackPage) in
         record {
           only = r .quiet;
           next =

@@ -1,5 +1,5 @@
 -- Loads give bytes, and by the rules of the map the data of a store, shift, INC or DEC is off the stack page.
-use Prim.Native.Nat.{ℕ, _+_, _/_, _%_, _<_, _≤_}
+use Prim.Native.Nat.{ℕ, _+_, _<_, _≤_}
 use native.Mathlib.Omega.{arith}
 use native.Mathlib.Decide.{decLe}
 use mathlib.Core.Path.{_≡_}

@@ -1,5 +1,5 @@
 -- What is done with a byte, and what is done inside the processor, leaves bytes in the registers, S as it was and a set I set.
-use Prim.Native.Nat.{ℕ, _+_, _*_, _/_, _%_, _<_}
+use Prim.Native.Nat.{ℕ, _<_}
 use native.Mathlib.Omega.{arith}
 use mathlib.Core.Path.{_≡_, refl}
 use mathlib.Core.Bool.{Bool, true}

@@ -1,8 +1,7 @@
 -- Demand 3: what admission accepts is safe.
-use Prim.Native.Nat.{ℕ, suc, _+_, _<_, _≤_}
-use native.Mathlib.Omega.{arith}
+use Prim.Native.Nat.{ℕ}
 use mathlib.Core.Path.{_≡_, refl, sym, ap, _∙_, subst}
-use mathlib.Core.Bool.{Bool, true, false}
+use mathlib.Core.Bool.{Bool, true}
 use mathlib.Core.List.{List, [], _∷_}
 use borrow.Author.Tests.{le-leb, lt-ltb, eq-eqb}
 use lib.ListN.{length}
@@ -11,16 +10,14 @@ use Rattle.rules.specs.declared.Cpu.{Cpu}
 use Rattle.rules.specs.declared.State.{State}
 use Rattle.rules.specs.declared.StepAnswer.{StepAnswer}
 use Rattle.rules.specs.declared.StepAnswer.the-variants.{Stepped}
-use Rattle.rules.specs.declared.Verdict.the-variants.{Accepted}
-use Rattle.rules.specs.Basics.{at, sum16}
+use Rattle.rules.specs.Basics.{at}
 use Rattle.rules.specs.Cycles.{execution, Ran}
-use Rattle.rules.specs.Opcodes.{decode, isDefined, ofInstruction}
-use Rattle.rules.specs.Interrupts.{resOf, nmiOf, Event, res, nmi, irq, execute, eventOf, cyclesOf}
-use Rattle.rules.specs.Bus.{resetBus, images, isProtected, World, listOf}
+use Rattle.rules.specs.Opcodes.{decode, isDefined}
+use Rattle.rules.specs.Interrupts.{resOf, Event, res, nmi, irq, execute, eventOf, cyclesOf}
+use Rattle.rules.specs.Bus.{resetBus, images, World}
 use Rattle.rules.specs.Record.{stateOf, recordOf, wellFormed}
-use Rattle.rules.specs.Step.{Outcome, busAt, ranOf, stateAfter, finished, opcodeOf, canStep, stateNow, eventNow, refused, stepTests, step}
-use Rattle.rules.specs.Admission.{admit}
-use Rattle.rules.specs.Safety.{Stacked, Effect, none, effectOf, effectAt, stackedAfter, pushesOf, stackWrites, Given, Proper, Unaltered, stateIn, eventIn, outcome, effect, Fine, Steps, Admissible, Safe, Demand3}
+use Rattle.rules.specs.Step.{Outcome, busAt, ranOf, stateAfter, finished, opcodeOf, canStep, refused, stepTests, step}
+use Rattle.rules.specs.Safety.{Stacked, Effect, effectAt, stackedAfter, pushesOf, stackWrites, Given, Proper, stateIn, eventIn, outcome, effect, Fine, Steps, Admissible, Safe, Demand3}
 use Rattle.rules.proofs.Tests.{Hold, tested-all}
 use Rattle.rules.proofs.Records.{read-again}
 use Rattle.rules.proofs.Steps.{lawful}
@@ -117,9 +114,19 @@ module _ (m₀ : List ℕ) (c : ℕ) (map : List ℕ) (ad : Admitted m₀ c map)
 
     module _ (w : Well m₀ c map ad e (u .cpu) (g .image) k) where
       holds : Hold (stepTests images r (g .image) (g .lines) (g .pins) (g .buffer))
-      holds =
-          (eq-eqb _ _ (six .size), (six .formed, (rw (six .part, size), (rw (six .part, lt-ltb (g .lines) 8 (proper .lines), proper .pins),
-          (le-leb _ _ (proper .room), (can e (w .defined), tt))))))
+      holds = (
+        eq-eqb _ _ (six .size),
+        (
+          six .formed,
+          (
+            rw (six .part, size),
+            (
+              rw (six .part, lt-ltb (g .lines) 8 (proper .lines), proper .pins),
+              (le-leb _ _ (proper .room), (can e (w .defined), tt)),
+            ),
+          ),
+        ),
+      )
 
       step-is : outcome r g ≡ finished images (g .lines) u (ranOf images e u (g .image)) (g .buffer)
       unfolding step
@@ -170,7 +177,7 @@ module _ (m₀ : List ℕ) (c : ℕ) (map : List ℕ) (ad : Admitted m₀ c map)
       let size = o .size ∙ ad .size in
       let event = res-first (g .lines) (stateIn r g .nmi) (cpuIn r) first in
       let w = subst (λ (e : Event). Well m₀ c map ad e (cpuIn r) (g .image) k) (sym event)
-          (well-reset m₀ c map ad (cpuIn r) (g .image) k registers size (o .bytes) (o .protectedPages)) in
+      (well-reset m₀ c map ad (cpuIn r) (g .image) k registers size (o .bytes) (o .protectedPages)) in
       (fine r g k six size p w, steps gs _ _ _ (again r g k six size p w) (after-step r g k six size p w .ready))
 
 pub demand3 : Demand3

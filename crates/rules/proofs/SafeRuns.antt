@@ -1,21 +1,19 @@
 -- A run over an admitted image plays its script to the end.
-use Prim.Native.Nat.{ℕ, suc, _+_, _*_, _/_, _%_, _<_, _≤_}
+use Prim.Native.Nat.{ℕ, suc, _+_, _*_, _/_, _%_, _≤_}
 use native.Mathlib.Omega.{arith}
 use mathlib.Core.Path.{_≡_, refl, sym, ap, _∙_, subst}
-use mathlib.Core.Bool.{true}
-use mathlib.Core.List.{List, [], _∷_, _++_}
+use mathlib.Core.List.{List, [], _∷_}
 use borrow.Author.Tests.{eq-eqb}
 use lib.ListN.{length, take, drop, length-append, length-drop}
 use lib.Seq.{length-take-le}
 use Rattle.rules.specs.declared.StepAnswer.{StepAnswer}
 use Rattle.rules.specs.declared.RunAnswer.the-variants.{Played}
 use Rattle.rules.specs.declared.Verdict.the-variants.{Accepted}
-use Rattle.rules.specs.Basics.{at}
 use Rattle.rules.specs.Interrupts.{Event}
 use Rattle.rules.specs.Bus.{images}
 use Rattle.rules.specs.Record.{stateOf}
 use Rattle.rules.specs.Step.{Outcome}
-use Rattle.rules.specs.Run.{Tally, stepAt, moved, stopped, goesOn, play, start, runTests, runOf}
+use Rattle.rules.specs.Run.{Tally, moved, stopped, goesOn, play, start, runTests, runOf}
 use Rattle.rules.specs.Admission.{admit}
 use Rattle.rules.specs.Safety.{Stacked, stackedAfter, Given, Proper, stateIn, eventIn, outcome, effect, ProperScript, PlaysOut}
 use Rattle.rules.proofs.Tests.{Hold, tested-all}
@@ -63,12 +61,13 @@ module _ (m₀ : List ℕ) (c : ℕ) (map : List ℕ) (ad : Admitted m₀ c map)
       let d = lawful images (s .state) (s .image) lines pins (g .buffer) .moves n (a .answered) in
       let before = length-take-le i (s .accesses) (omega arith) in
       let later : Room rest (moved images s o n) =
-          omega (arith, d .most, d .size, before, length-append (take i (s .accesses)) (o .accesses), length-drop i (s .accesses)) in
+      omega (arith, d .most, d .size, before, length-append (take i (s .accesses)) (o .accesses), length-drop i (s .accesses)) in
       let played = on (moved images s o n)
-          (record { k = stackedAfter (effect (s .state) g) k; six = again m₀ c map ad (s .state) g k six size proper w; ready = a .ready }) later in
-      let steps : s .answer .steps + 1 + length rest / 2 ≡ s .answer .steps + suc (suc (length rest)) / 2 = omega arith in
-      (played .0,
-      ap (λ (x : StepAnswer). goesOn images (play images rest) s o x .answer) (a .answered) ∙ played .1 ∙ ap (λ (x : ℕ). Played x (played .0)) steps)
+      (record { k = stackedAfter (effect (s .state) g) k; six = again m₀ c map ad (s .state) g k six size proper w; ready = a .ready }) later in
+      let steps : s .answer .steps + 1 + length rest / 2 ≡ s .answer .steps + suc (suc (length rest)) / 2 = omega arith in (
+        played .0,
+        ap (λ (x : StepAnswer). goesOn images (play images rest) s o x .answer) (a .answered) ∙ played .1 ∙ ap (λ (x : ℕ). Played x (played .0)) steps,
+      )
 
   plays : (script : List ℕ) (s : Outcome Tally (List ℕ)) → Between s → ProperScript script → Room script s → PlaysFrom script s
   unfolding play stateOf
@@ -93,12 +92,13 @@ plays-out m c map e r x bytes lines pins rest buffer first p room =
     let script = lines ∷ pins ∷ rest in
     let s = start images r m script buffer in
     let tests : Hold (runTests images r m script buffer) =
-        (eq-eqb _ _ (x .size), (x .formed, (rw (x .part, ad .size), (eq-eqb _ _ (even script p), tt)))) in
+    (eq-eqb _ _ (x .size), (x .formed, (rw (x .part, ad .size), (eq-eqb _ _ (even script p), tt)))) in
     let event = res-first m c map ad lines (stateIn r (givenAt lines pins s) .nmi) (cpuIn r) first in
     let w = subst (λ (v : Event). Well m c map ad v (cpuIn r) m k) (sym event)
-        (well-reset m c map ad (cpuIn r) m k (register-bytes c r x) (ad .size) bytes (λ q h. refl)) in
+    (well-reset m c map ad (cpuIn r) m k (register-bytes c r x) (ad .size) bytes (λ q h. refl)) in
     let played = one m c map ad lines pins rest s k (sixteen c r x) (ad .size) p (omega arith) w (λ t bt rt. plays m c map ad rest t bt (p .3) rt) in
-    let zero : 0 + length script / 2 ≡ length script / 2 = omega arith in
-    (played .0,
-    ap (λ (o : Outcome _ (List ℕ)). o .answer) (tested-all (runTests images r m script buffer) (stopped images s) (play images script s) tests)
-    ∙ played .1 ∙ ap (λ (n : ℕ). Played n (played .0)) zero)
+    let zero : 0 + length script / 2 ≡ length script / 2 = omega arith in (
+      played .0,
+      ap (λ (o : Outcome _ (List ℕ)). o .answer) (tested-all (runTests images r m script buffer) (stopped images s) (play images script s) tests)
+          ∙ played .1 ∙ ap (λ (n : ℕ). Played n (played .0)) zero,
+    )

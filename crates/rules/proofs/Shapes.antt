@@ -1,27 +1,27 @@
 -- What is asked of the decoder: how an entry takes its operand, whichever entries there are.
-use Prim.Native.Nat.{ℕ, zero, suc, _+_, _<_}
+use Prim.Native.Nat.{ℕ, zero, suc, _<_}
 use native.Mathlib.Omega.{arith}
-use mathlib.Core.Path.{_≡_, refl, sym, ap, _∙_}
+use mathlib.Core.Path.{_≡_, refl, ap, _∙_}
 use mathlib.Core.Bool.{Bool, true, false, false≢true}
 use mathlib.Core.List.{List, [], _∷_}
 use lib.Dec.{eqb}
-use lib.ListN.{length, drop, replicate}
+use lib.ListN.{length, getD, drop, replicate}
 use Rattle.rules.specs.declared.Cpu.{Cpu}
 use Rattle.rules.specs.declared.Mode.{Mode}
 use Rattle.rules.specs.declared.Mode.the-variants.{Immediate, Zero, ZeroX, ZeroY, Absolute, AbsoluteX, AbsoluteY, IndirectX, IndirectY, IndirectBankY}
 use Rattle.rules.specs.declared.Instruction.{Instruction}
 use Rattle.rules.specs.declared.Instruction.the-variants.{Read, Store, Change, Accumulator, Implied, Branch, Jump, JumpIndirect, Jsr, Rts, Rti, Brk, Php, Plp, Pha, Pla, Txs, Cli}
-use Rattle.rules.specs.Basics.{if_then_else_, at, address, sum16}
+use Rattle.rules.specs.Basics.{if_then_else_, at, sum16}
 use Rattle.rules.specs.Cycles.{_>>=_}
-use Rattle.rules.specs.Opcodes.{Entry, undefined, alone, byte, word, late, Row, rows, among, decode, isDefined, sizeOf, ofInstruction}
+use Rattle.rules.specs.Opcodes.{Entry, undefined, alone, byte, word, late, Row, rows, among, decode, isDefined, ofInstruction}
 use Rattle.rules.specs.Operations.{withPc, perform, operate, instruction, next}
 use Rattle.rules.proofs.Tests.{if-case}
 use Rattle.rules.proofs.Ends.{ends}
 use Rattle.rules.proofs.Places.{Small}
 
--- That entries take their operands rightly is said by numbers, so that it is computed of all rows at once: what an instruction made of the
+-- That entries take their operands rightly is said by equations, so that it is computed of all rows at once: what an instruction made of the
 -- operand v gives back is v, which is its operand where the operand's size matters, and one more where something is wrong. An address (wide)
--- is no data and no address of page zero, and only JSR is late.
+-- is no data and no address of page zero, and JSR is late.
 
 abbrev pub modeGives : Bool → ℕ → Mode → ℕ
 modeGives wide v (Immediate w) = if wide then suc v else w
@@ -55,51 +55,40 @@ gives wide v Pla = v
 gives wide v Txs = v
 gives wide v Cli = v
 
--- the low operand of a JSR whose target's low byte is v
-abbrev pub lateGives : ℕ → Instruction → ℕ
-lateGives v (Read o d) = suc v
-lateGives v (Store o d) = suc v
-lateGives v (Change o d) = suc v
-lateGives v (Accumulator o) = suc v
-lateGives v (Implied o) = suc v
-lateGives v (Branch t o) = suc v
-lateGives v (Jump a) = suc v
-lateGives v (JumpIndirect a) = suc v
-lateGives v (Jsr low) = low
-lateGives v Rts = suc v
-lateGives v Rti = suc v
-lateGives v Brk = suc v
-lateGives v Php = suc v
-lateGives v Plp = suc v
-lateGives v Pha = suc v
-lateGives v Pla = suc v
-lateGives v Txs = suc v
-lateGives v Cli = suc v
+abbrev pub entryGives : ℕ → Entry → ℕ
+entryGives v undefined = v
+entryGives v (alone i) = gives false v i
+entryGives v (byte f) = gives false v (f v)
+entryGives v (word f) = gives true v (f v)
+entryGives v (late f) = v
 
-abbrev pub entryGives : Entry → ℕ → ℕ
-entryGives undefined v = v
-entryGives (alone i) v = gives false v i
-entryGives (byte f) v = gives false v (f v)
-entryGives (word f) v = gives true v (f v)
-entryGives (late f) v = lateGives v (f v)
+-- what is late is JSR
+abbrev pub lateGives : ℕ → Entry → Instruction
+lateGives v undefined = Jsr v
+lateGives v (alone i) = Jsr v
+lateGives v (byte f) = Jsr v
+lateGives v (word f) = Jsr v
+lateGives v (late f) = f v
 
-abbrev rowsGive : List Row → ℕ → List ℕ
-rowsGive [] v = []
-rowsGive (r ∷ rs) v = entryGives (r .entry) v ∷ rowsGive rs v
+module _ {A : Type 0} (f : Entry → A) (x : A) where
+  abbrev ofRows : List Row → List A
+  ofRows [] = []
+  ofRows (r ∷ rs) = f (r .entry) ∷ ofRows rs
 
-rows-give : (v : ℕ) → rowsGive rows v ≡ replicate 151 v
-rows-give v = refl
+  among-gives : f undefined ≡ x → (l : List Row) (n k : ℕ) → ofRows l ≡ replicate k x → f (among l n) ≡ x
+  among-gives u [] n k h = u
+  among-gives u (r ∷ l) n zero h = let e : suc (length (ofRows l)) ≡ 0 = ap length h in absurd (omega arith)
+  among-gives u (r ∷ l) n (suc k) h =
+      if-case (λ (e : Entry). f e ≡ x) (eqb n (r .opcode)) _ _ (λ e. ap (λ (y : List A). getD y 0 x) h)
+      (λ e. among-gives u l n k (ap (drop 1) h))
 
-among-gives : (l : List Row) (n k v : ℕ) → rowsGive l v ≡ replicate k v → entryGives (among l n) v ≡ v
-among-gives [] n k v h = refl
-among-gives (r ∷ l) n zero v h = let e : suc (length (rowsGive l v)) ≡ 0 = ap length h in absurd (omega arith)
-among-gives (r ∷ l) n (suc k) v h =
-    if-case (λ (e : Entry). entryGives e v ≡ v) (eqb n (r .opcode)) _ _ (λ e. ap (λ (x : List ℕ). at x 0) h)
-    (λ e. among-gives l n k v (ap (drop 1) h))
-
-pub decode-gives : (n v : ℕ) → entryGives (decode n) v ≡ v
+pub decode-gives : (n v : ℕ) → entryGives v (decode n) ≡ v
 unfolding decode
-decode-gives n v = among-gives rows n 151 v (rows-give v)
+decode-gives n v = among-gives (entryGives v) v refl rows n 151 refl
+
+pub decode-late : (n v : ℕ) → lateGives v (decode n) ≡ Jsr v
+unfolding decode
+decode-late n v = among-gives (lateGives v) (Jsr v) refl rows n 151 refl
 
 -- so the size of an operand is its mode's
 pub small : (wide : Bool) (v : ℕ) (d : Mode) → modeGives wide v d ≡ v → v < (if wide then 65536 else 256) → Small d
@@ -117,26 +106,6 @@ small false v (AbsoluteY w) h n = omega arith
 small wide v (IndirectX w) h n = tt
 small wide v (IndirectY w) h n = tt
 small wide v (IndirectBankY w) h n = tt
-
-pub late-is : (v : ℕ) (i : Instruction) → lateGives v i ≡ v → i ≡ Jsr v
-late-is v (Read o d) h = absurd (omega arith)
-late-is v (Store o d) h = absurd (omega arith)
-late-is v (Change o d) h = absurd (omega arith)
-late-is v (Accumulator o) h = absurd (omega arith)
-late-is v (Implied o) h = absurd (omega arith)
-late-is v (Branch t o) h = absurd (omega arith)
-late-is v (Jump a) h = absurd (omega arith)
-late-is v (JumpIndirect a) h = absurd (omega arith)
-late-is v (Jsr low) h = ap Jsr h
-late-is v Rts h = absurd (omega arith)
-late-is v Rti h = absurd (omega arith)
-late-is v Brk h = absurd (omega arith)
-late-is v Php h = absurd (omega arith)
-late-is v Plp h = absurd (omega arith)
-late-is v Pha h = absurd (omega arith)
-late-is v Pla h = absurd (omega arith)
-late-is v Txs h = absurd (omega arith)
-late-is v Cli h = absurd (omega arith)
 
 -- the instruction that an entry makes of the two bytes after the opcode
 abbrev pub made : Entry → ℕ → ℕ → Instruction

@@ -1,9 +1,9 @@
 -- The bytes on the stack while an admitted image runs, and how pushes, pulls, calls, returns and interrupts move them. Nothing here knows
 -- the instruction set.
-use Prim.Native.Nat.{ℕ, zero, suc, _+_, _-_, _/_, _%_, _<_, _≤_}
+use Prim.Native.Nat.{ℕ, suc, _+_, _-_, _/_, _%_, _<_, _≤_}
 use native.Mathlib.Omega.{arith}
 use native.Mathlib.Decide.{decLe}
-use mathlib.Core.Path.{_≡_, refl, sym, ap, _∙_}
+use mathlib.Core.Path.{_≡_, refl, sym, _∙_}
 use mathlib.Core.Bool.{Bool, true, false, false≢true}
 use mathlib.Core.List.{List, [], _∷_, _++_}
 use lib.ListN.{length, set, length-append, length-set}
@@ -38,9 +38,10 @@ holds-set : (m : List ℕ) (s v j : ℕ) (l : List ℕ) → s < 256 → j + leng
     Holds (set m (stack s) v) ((s + j) % 256) l
 holds-set m s v j [] hs n x = tt
 holds-set m s v j (w ∷ l) hs n (e, x) =
-    let on : sum8 ((s + j) % 256) 1 ≡ (s + suc j) % 256 = omega arith in
-    (getD-set-other m (stack s) (stack (sum8 ((s + j) % 256) 1)) v 0 (λ z. around s j hs (omega arith) (omega arith)) ∙ e,
-    rw on (holds-set m s v (suc j) l hs (omega arith) (rw on at x)))
+    let on : sum8 ((s + j) % 256) 1 ≡ (s + suc j) % 256 = omega arith in (
+      getD-set-other m (stack s) (stack (sum8 ((s + j) % 256) 1)) v 0 (λ z. around s j hs (omega arith) (omega arith)) ∙ e,
+      rw on (holds-set m s v (suc j) l hs (omega arith) (rw on at x)),
+    )
 
 pub holds-push : (m : List ℕ) (s v : ℕ) (l : List ℕ) → s < 256 → length l ≤ 255 → length m ≡ 65536 → Holds m s l →
     Holds (set m (stack s) v) (down 1 s) (v ∷ l)
@@ -241,10 +242,12 @@ module _ (map : List ℕ) (N : ℕ) where
           busy = v .busy;
           goes = record { within = y .within; height = sym (y .height); room = omega (arith, v .goes .room, y .need) };
           address = y .address;
-          chain =
-              (y .kind,
-              record { within = x .within; height = v .goes .height ∙ sym (x .height); room = omega (arith, v .goes .room, x .need) },
-              e ∙ sym (x .address), rw (x .kind) (v .chain));
+          chain = (
+            y .kind,
+            record { within = x .within; height = v .goes .height ∙ sym (x .height); room = omega (arith, v .goes .room, x .need) },
+            e ∙ sym (x .address),
+            rw (x .kind) (v .chain),
+          );
           masked = v .masked;
           holds =
               rw (lower s 1 hs (omega arith)) at
