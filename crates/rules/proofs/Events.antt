@@ -6,7 +6,7 @@ use mathlib.Core.Bool.{Bool, true, false, not, _&&_, false≢true}
 use mathlib.Core.List.{List, [], _∷_}
 use borrow.Author.Tests.{le-leb, leb-true}
 use lib.Dec.{leb}
-use lib.ListN.{length, set, length-set}
+use lib.ListN.{length, set}
 use Rattle.rules.specs.declared.Cpu.{Cpu}
 use Rattle.rules.specs.declared.Instruction.{Instruction}
 use Rattle.rules.specs.declared.Instruction.the-variants.{Jsr}
@@ -23,11 +23,10 @@ use Rattle.rules.proofs.Tests.{Hold}
 use Rattle.rules.proofs.Stacks.{lower, Stands, starts, altered, interrupts}
 use Rattle.rules.proofs.Marks.{Admitted}
 use Rattle.rules.proofs.Ends.{End, ends}
-use Rattle.rules.proofs.Calm.{set-byte}
 use Rattle.rules.proofs.Places.{Bytes}
 use Rattle.rules.proofs.Plain.{p-byte}
 use Rattle.rules.proofs.Shapes.{gives, decode-gives, decode-late, on-one, made, made-is, fetched, instruction-ends}
-use Rattle.rules.proofs.Performs.{Ready, Done, stack-open, stack-page, set-code, n, performs, does-jsr}
+use Rattle.rules.proofs.Performs.{Image, Ready, Done, stack-open, stack-page, pushed-image, n, performs, does-jsr}
 
 -- a later byte of an instruction in protected pages is protected too
 protected-on : (c a j : ℕ) → isProtected c a ≡ true → a + j < 65536 → isProtected c (sum16 a j) ≡ true
@@ -69,10 +68,10 @@ module _ (m₀ : List ℕ) (c : ℕ) (map : List ℕ) (ad : Admitted m₀ c map)
 
     -- the code at PC is the code that was admitted
     code-here : isProtected c a ≡ true → (j : ℕ) → a + j < 65536 → at m (sum16 (u .pc) j) ≡ at m₀ (sum16 a j)
-    code-here h j l = ap (λ (p : ℕ). at m (sum16 p j)) (sym (s .address)) ∙ g .code (sum16 a j) (protected-on c a j h l)
+    code-here h j l = ap (λ (p : ℕ). at m (sum16 p j)) (sym (s .address)) ∙ g .image .code (sum16 a j) (protected-on c a j h l)
 
     entry-here : (e : Entry) → isProtected c a ≡ true → decode (at m₀ a) ≡ e → decode (at m (u .pc)) ≡ e
-    entry-here e h d = ap (λ (p : ℕ). decode (at m p)) (sym (s .address)) ∙ ap decode (g .code a h) ∙ d
+    entry-here e h d = ap (λ (p : ℕ). decode (at m p)) (sym (s .address)) ∙ ap decode (g .image .code a h) ∙ d
 
     finish : (e : Entry) → decode (at m (u .pc)) ≡ e → isDefined e ≡ true →
         Done m₀ c map ad (effectOf (made e low high)) (u .s) k (ends c (perform (made e low high) (withPc (sum16 (u .pc) (fetched e)) u)) m) → Executes
@@ -110,10 +109,10 @@ module _ (m₀ : List ℕ) (c : ℕ) (map : List ℕ) (ad : Admitted m₀ c map)
         go (alone i) d h l def t = whole (alone i) h d def refl false 0 (rw d at (decode-gives (at m₀ a) 0)) (omega arith) t
         go (byte f) d h l def t =
             let same = code-here h 1 (omega (arith, leb-true (a + 2) 65536 l)) in
-            whole (byte f) h d def refl false low (rw d at (decode-gives (at m₀ a) low)) (g .image (sum16 (u .pc) 1)) (rw same t)
+            whole (byte f) h d def refl false low (rw d at (decode-gives (at m₀ a) low)) (g .image .bytes (sum16 (u .pc) 1)) (rw same t)
         go (word f) d h l def t =
-            let n₁ = g .image (sum16 (u .pc) 1) in
-            let n₂ = g .image (sum16 (u .pc) 2) in
+            let n₁ = g .image .bytes (sum16 (u .pc) 1) in
+            let n₂ = g .image .bytes (sum16 (u .pc) 2) in
             let same₁ = code-here h 1 (omega (arith, leb-true (a + 3) 65536 l)) in
             let same₂ = code-here h 2 (omega (arith, leb-true (a + 3) 65536 l)) in
             let x = address low high in
@@ -140,55 +139,50 @@ module _ (m₀ : List ℕ) (c : ℕ) (map : List ℕ) (ad : Admitted m₀ c map)
     requested : u .p .i ≡ false → Done m₀ c map ad (pushes 3) (u .s) k (ends c (interrupt 0xFFFE u) m)
     unfolding interrupt enter ends _>>=_
     requested clear =
-        let r = g .bytes in
+        let r = g .registers in
         let s₁ : down 1 (u .s) < 256 = omega arith in
         let s₂ : down 2 (u .s) < 256 = omega arith in
-        let free = stack-open m₀ c map ad (u .s) (r .s) in
-        let free₁ = stack-open m₀ c map ad (down 1 (u .s)) s₁ in
-        let free₂ = stack-open m₀ c map ad (down 2 (u .s)) s₂ in
         let m₁ = set m (stack (u .s)) (u .pc / 256) in
         let m₂ = set m₁ (stack (down 1 (u .s))) (u .pc % 256) in
         let m₃ = set m₂ (stack (down 2 (u .s))) (byteOf (u .p)) in
-        let code₁ = set-code m₀ c map ad m (stack (u .s)) (u .pc / 256) free (g .code) in
-        let code₂ = set-code m₀ c map ad m₁ (stack (down 1 (u .s))) (u .pc % 256) free₁ code₁ in
-        let code₃ = set-code m₀ c map ad m₂ (stack (down 2 (u .s))) (byteOf (u .p)) free₂ code₂ in
+        let image₁ = pushed-image m₀ c map ad m (u .s) (u .pc / 256) (r .s) (omega (arith, pc-16)) (g .image) in
+        let image₂ = pushed-image m₀ c map ad m₁ (down 1 (u .s)) (u .pc % 256) s₁ (omega arith) image₁ in
+        let image₃ = pushed-image m₀ c map ad m₂ (down 2 (u .s)) (byteOf (u .p)) s₂ (omega (arith, p-byte (u .p))) image₂ in
         let whole : address (u .pc % 256) (u .pc / 256) ≡ u .pc = omega arith in
-        rw (free, free₁, free₂, stack-page m₀ c map ad (u .s) (r .s), stack-page m₀ c map ad (down 1 (u .s)) s₁, stack-page m₀ c map ad (down 2 (u .s)) s₂)
+        rw (
+          stack-open m₀ c map ad (u .s) (r .s),
+          stack-open m₀ c map ad (down 1 (u .s)) s₁,
+          stack-open m₀ c map ad (down 2 (u .s)) s₂,
+          stack-page m₀ c map ad (u .s) (r .s),
+          stack-page m₀ c map ad (down 1 (u .s)) s₁,
+          stack-page m₀ c map ad (down 2 (u .s)) s₂,
+        )
         (record {
           only = ap (λ (t : ℕ). stack (u .s) ∷ stack (down 1 (u .s)) ∷ stack t ∷ []) (sym (lower (u .s) 1 (r .s) (omega arith)));
           next =
               record {
                 stands =
-                    interrupts map (ad .N) (u .s) (u .p .i) (u .pc) m k s clear (r .s) (g .size) (byteOf (u .p)) (u .pc % 256) (u .pc / 256)
+                    interrupts map (ad .N) (u .s) (u .p .i) (u .pc) m k s clear (r .s) (g .image .size) (byteOf (u .p)) (u .pc % 256) (u .pc / 256)
                     (address (at m₃ 0xFFFE) (at m₃ 0xFFFF)) (ad .H) whole (ad .room)
-                    (rw (code₃ 0xFFFE (vector-protected 0xFFFE refl), code₃ 0xFFFF (vector-protected 0xFFFF refl)) (ad .serves));
-                bytes = record { a = r .a; x = r .x; y = r .y; s = omega arith };
-                size =
-                    length-set m₂ (stack (down 2 (u .s))) (byteOf (u .p)) ∙ length-set m₁ (stack (down 1 (u .s))) (u .pc % 256)
-                    ∙ length-set m (stack (u .s)) (u .pc / 256) ∙ g .size;
-                image =
-                    set-byte m₂ (stack (down 2 (u .s))) (byteOf (u .p)) (omega (arith, p-byte (u .p)))
-                    (set-byte m₁ (stack (down 1 (u .s))) (u .pc % 256) (omega arith) (set-byte m (stack (u .s)) (u .pc / 256) (omega (arith, pc-16)) (g .image)));
-                code = code₃;
+                    (rw (image₃ .code 0xFFFE (vector-protected 0xFFFE refl), image₃ .code 0xFFFF (vector-protected 0xFFFF refl)) (ad .serves));
+                registers = record { a = r .a; x = r .x; y = r .y; s = omega arith };
+                image = image₃;
               };
         })
 
   -- RES: three reads of the stack in place of the pushes
-  started : (u : Cpu) (m : List ℕ) (k : Stacked) → Bytes u → length m ≡ 65536 → ((p : ℕ) → at m p < 256) → ((p : ℕ) → isProtected c p ≡ true → at m p ≡ at m₀ p) →
-      Done m₀ c map ad clears (u .s) k (ends c (reset u) m)
+  started : (u : Cpu) (m : List ℕ) (k : Stacked) → Bytes u → Image m₀ c map ad m → Done m₀ c map ad clears (u .s) k (ends c (reset u) m)
   unfolding reset enter ends _>>=_
-  started u m k r size bytes code =
+  started u m k r i =
       record {
         only = refl;
         next =
             record {
               stands =
                   starts map (ad .N) (down 3 (u .s)) true (address (at m 0xFFFC) (at m 0xFFFD)) m
-                  (rw (code 0xFFFC (vector-protected 0xFFFC refl), code 0xFFFD (vector-protected 0xFFFD refl)) (ad .starts));
-              bytes = record { a = r .a; x = r .x; y = r .y; s = omega arith };
-              size = size;
-              image = bytes;
-              code = code;
+                  (rw (i .code 0xFFFC (vector-protected 0xFFFC refl), i .code 0xFFFD (vector-protected 0xFFFD refl)) (ad .starts));
+              registers = record { a = r .a; x = r .x; y = r .y; s = omega arith };
+              image = i;
             };
       }
 
@@ -198,14 +192,13 @@ module _ (m₀ : List ℕ) (c : ℕ) (map : List ℕ) (ad : Admitted m₀ c map)
     pub named : e ≡ execute → (i : ℕ) × (i < marksIn map) × (markAt map i .address ≡ u .pc)
     pub done : Done m₀ c map ad (effectAt e (effectHere u m)) (u .s) k (ends c (cyclesOf e u) m)
 
-  pub well-reset : (u : Cpu) (m : List ℕ) (k : Stacked) → Bytes u → length m ≡ 65536 → ((p : ℕ) → at m p < 256) → ((p : ℕ) → isProtected c p ≡ true → at m p ≡ at m₀ p) →
-      Well res u m k
+  pub well-reset : (u : Cpu) (m : List ℕ) (k : Stacked) → Bytes u → Image m₀ c map ad m → Well res u m k
   unfolding cyclesOf
-  well-reset u m k r size bytes code =
+  well-reset u m k r i =
       record {
         defined = λ e. let z : _≡_ {A = ℕ} 0 1 = cc in absurd (omega arith);
         named = λ e. let z : _≡_ {A = ℕ} 0 1 = cc in absurd (omega arith);
-        done = started u m k r size bytes code;
+        done = started u m k r i;
       }
 
   pub well : (u : Cpu) (m : List ℕ) (k : Stacked) → Ready m₀ c map ad u m k → (lines : ℕ) (last : Bool) →
@@ -221,7 +214,7 @@ module _ (m₀ : List ℕ) (c : ℕ) (map : List ℕ) (ad : Admitted m₀ c map)
 
       go : (r n : Bool) → n ≡ false → (q i : Bool) → u .p .i ≡ i →
           Well (if r then res else if n && not last then nmi else if q && not i then irq else execute) u m k
-      go true n z q i e = well-reset u m k (g .bytes) (g .size) (g .image) (g .code)
+      go true n z q i e = well-reset u m k (g .registers) (g .image)
       go false true z q i e = absurd (false≢true (sym z))
       go false false z true false e =
           record {
@@ -233,12 +226,14 @@ module _ (m₀ : List ℕ) (c : ℕ) (map : List ℕ) (ad : Admitted m₀ c map)
       go false false z false i e = runs
 
   -- between two steps
+  pub others-image : (m m′ : List ℕ) → length m ≡ 65536 → ((p : ℕ) → isProtected c p ≡ true → at m p ≡ at m₀ p) → Unaltered c m m′ → Image m₀ c map ad m′
+  others-image m m′ size code o =
+      record { size = o .size ∙ size; bytes = o .bytes; code = λ p h. o .protectedPages p h ∙ code p h }
+
   pub others : (u : Cpu) (m m′ : List ℕ) (k : Stacked) → Ready m₀ c map ad u m k → Unaltered c m m′ → Ready m₀ c map ad u m′ k
   others u m m′ k g o =
       record {
         stands = altered map (ad .N) (u .s) (u .p .i) (u .pc) m k (g .stands) m′ (o .stackPage);
-        bytes = g .bytes;
-        size = o .size ∙ g .size;
-        image = o .bytes;
-        code = λ p h. o .protectedPages p h ∙ g .code p h;
+        registers = g .registers;
+        image = others-image m m′ (g .image .size) (g .image .code) o;
       }

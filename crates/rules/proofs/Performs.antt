@@ -36,13 +36,17 @@ use Rattle.rules.proofs.Plain.{To, On, used-on, inside-on, same-on, cha
 use Rattle.rules.proofs.Shapes.{gives, small}
 
 module _ (m₀ : List ℕ) (c : ℕ) (map : List ℕ) (ad : Admitted m₀ c map) where
+  -- an image whose protected pages are as they were admitted
+  pub record Image (m : List ℕ) : Type 0 where
+    pub size : length m ≡ 65536
+    pub bytes : (p : ℕ) → at m p < 256
+    pub code : (p : ℕ) → isProtected c p ≡ true → at m p ≡ at m₀ p
+
   -- between two steps: the registers u and the image m, with k bytes on the stack
   pub record Ready (u : Cpu) (m : List ℕ) (k : Stacked) : Type 0 where
     pub stands : Stands map (ad .N) (u .s) (u .p .i) (u .pc) m k
-    pub bytes : Bytes u
-    pub size : length m ≡ 65536
-    pub image : (p : ℕ) → at m p < 256
-    pub code : (p : ℕ) → isProtected c p ≡ true → at m p ≡ at m₀ p
+    pub registers : Bytes u
+    pub image : Image m
 
   -- an end that is as an effect says, from S on and with k bytes on the stack
   pub record Done (e : Effect) (s : ℕ) (k : Stacked) (x : End Cpu) : Type 0 where
@@ -59,10 +63,14 @@ module _ (m₀ : List ℕ) (c : ℕ) (map : List ℕ) (ad : Admitted m₀ c map)
   pub stack-page : (s : ℕ) → s < 256 → eqb (stack s / 256) 1 ≡ true
   stack-page s h = eq-eqb (stack s / 256) 1 (omega arith)
 
-  -- a byte written outside the protected pages
-  pub set-code : (m : List ℕ) (p x : ℕ) → isProtected c p ≡ false → ((q : ℕ) → isProtected c q ≡ true → at m q ≡ at m₀ q) →
-      (q : ℕ) → isProtected c q ≡ true → at (set m p x) q ≡ at m₀ q
-  set-code m p x free code q h = getD-set-other m p q x 0 (λ e. false≢true (sym free ∙ ap (isProtected c) (sym e) ∙ h)) ∙ code q h
+  pub pushed-image : (m : List ℕ) (s x : ℕ) → s < 256 → x < 256 → Image m → Image (set m (stack s) x)
+  pushed-image m s x hs hx i =
+      record {
+        size = length-set m (stack s) x ∙ i .size;
+        bytes = set-byte m (stack s) x hx (i .bytes);
+        code = λ q h.
+            getD-set-other m (stack s) q x 0 (λ e. false≢true (sym (stack-open s hs) ∙ ap (isProtected c) (sym e) ∙ h)) ∙ i .code q h;
+      }
 
   module _ (u : Cpu) (m : List ℕ) (k : Stacked) (g : Ready u m k) where
     abbrev pub v : Stands map (ad .N) (u .s) (u .p .i) (u .pc) m k
@@ -86,7 +94,7 @@ module _ (m₀ : List ℕ) (c : ℕ) (map : List ℕ) (ad : Admitted m₀ c map)
 
     calm-done : (t : Cycles Cpu) → Calm Lands t → Done none (u .s) k (ends c t m)
     calm-done t q =
-        let r = calmly Lands c t m (g .image) q in
+        let r = calmly Lands c t m (g .image .bytes) q in
         let to = r .value .to in
         let d = ends c t m .value in
         let s = stays map (ad .N) (u .s) (u .p .i) (u .pc) m k v (d .p .i) (r .value .n) (ends c t m .image) (r .value .follows)
@@ -96,15 +104,18 @@ module _ (m₀ : List ℕ) (c : ℕ) (map : List ℕ) (ad : Admitted m₀ c map)
           next =
               record {
                 stands = rw (to .stays, to .pc) s;
-                bytes = to .bytes;
-                size = r .kept .size ∙ g .size;
-                image = r .kept .bytes;
-                code = λ p h. r .kept .protectedPages p h ∙ g .code p h;
+                registers = to .bytes;
+                image =
+                    record {
+                      size = r .kept .size ∙ g .image .size;
+                      bytes = r .kept .bytes;
+                      code = λ p h. r .kept .protectedPages p h ∙ g .image .code p h;
+                    };
               };
         }
 
     at-pc : (n : ℕ) → Bytes (withPc n u)
-    at-pc n = let w = g .bytes in record { a = w .a; x = w .x; y = w .y; s = w .s }
+    at-pc n = let w = g .registers in record { a = w .a; x = w .x; y = w .y; s = w .s }
 
     abbrev Rules : Instruction → Type 0
     Rules i = Hold (rulesOf images m₀ c map (v .i) i)
@@ -175,17 +186,15 @@ module _ (m₀ : List ℕ) (c : ℕ) (map : List ℕ) (ad : Admitted m₀ c map)
     does-push : (x : ℕ) → x < 256 → Leads map n (mark .kind) (mark .height + 1) 1 (mark .need) → Done (pushes 1) (u .s) k (ends c (push x w) m)
     unfolding push ends _>>=_
     does-push x h f =
-        let s = g .bytes .s in
+        let s = g .registers .s in
         rw (stack-open (u .s) s, stack-page (u .s) s)
         (record {
           only = refl;
           next =
               record {
-                stands = pushes-one map (ad .N) (u .s) (u .p .i) (u .pc) m k v few s (g .size) x n f;
-                bytes = let r = g .bytes in record { a = r .a; x = r .x; y = r .y; s = omega arith };
-                size = length-set m (stack (u .s)) x ∙ g .size;
-                image = set-byte m (stack (u .s)) x h (g .image);
-                code = set-code m (stack (u .s)) x (stack-open (u .s) s) (g .code);
+                stands = pushes-one map (ad .N) (u .s) (u .p .i) (u .pc) m k v few s (g .image .size) x n f;
+                registers = let r = g .registers in record { a = r .a; x = r .x; y = r .y; s = omega arith };
+                image = pushed-image m (u .s) x s h (g .image);
               };
         })
 
@@ -199,10 +208,8 @@ module _ (m₀ : List ℕ) (c : ℕ) (map : List ℕ) (ad : Admitted m₀ c map)
                 stands =
                     pulls-one map (ad .N) (u .s) (u .p .i) (u .pc) m k v n (leb-true 1 (mark .height) (t .0))
                     (leads-to map n (mark .kind) (mark .height - 1) 0 (mark .need + 1) (t .1 .0));
-                bytes = let r = g .bytes in record { a = g .image _; x = r .x; y = r .y; s = omega arith };
-                size = g .size;
+                registers = let r = g .registers in record { a = g .image .bytes _; x = r .x; y = r .y; s = omega arith };
                 image = g .image;
-                code = g .code;
               };
         }
 
@@ -221,10 +228,8 @@ module _ (m₀ : List ℕ) (c : ℕ) (map : List ℕ) (ad : Admitted m₀ c map)
           next =
               record {
                 stands = returns map (ad .N) (u .s) (u .p .i) (u .pc) m k v (z .0) (z .1);
-                bytes = let r = g .bytes in record { a = r .a; x = r .x; y = r .y; s = omega arith };
-                size = g .size;
+                registers = let r = g .registers in record { a = r .a; x = r .x; y = r .y; s = omega arith };
                 image = g .image;
-                code = g .code;
               };
         }
 
@@ -237,10 +242,8 @@ module _ (m₀ : List ℕ) (c : ℕ) (map : List ℕ) (ad : Admitted m₀ c map)
           next =
               record {
                 stands = goes-back map (ad .N) (u .s) (u .p .i) (u .pc) m k v (flagsOf (at m (stack (sum8 (u .s) 1))) .i) (z .0) (z .1);
-                bytes = let r = g .bytes in record { a = r .a; x = r .x; y = r .y; s = omega arith };
-                size = g .size;
+                registers = let r = g .registers in record { a = r .a; x = r .x; y = r .y; s = omega arith };
                 image = g .image;
-                code = g .code;
               };
         }
 
@@ -264,10 +267,8 @@ module _ (m₀ : List ℕ) (c : ℕ) (map : List ℕ) (ad : Admitted m₀ c map)
                       height = on .height ∙ z .1;
                       need = omega (arith, on .need, idle .1);
                     });
-                bytes = let r = g .bytes in record { a = r .a; x = r .x; y = r .y; s = r .x };
-                size = g .size;
+                registers = let r = g .registers in record { a = r .a; x = r .x; y = r .y; s = r .x };
                 image = g .image;
-                code = g .code;
               };
         }
 
@@ -282,10 +283,8 @@ module _ (m₀ : List ℕ) (c : ℕ) (map : List ℕ) (ad : Admitted m₀ c map)
               record {
                 stands =
                     stays map (ad .N) (u .s) (u .p .i) (u .pc) m k v false n m (follows n (t .1 .0)) (λ h. sym (idle .0) ∙ h) (λ p h. refl);
-                bytes = let r = g .bytes in record { a = r .a; x = r .x; y = r .y; s = r .s };
-                size = g .size;
+                registers = let r = g .registers in record { a = r .a; x = r .x; y = r .y; s = r .s };
                 image = g .image;
-                code = g .code;
               };
         }
 
@@ -294,26 +293,23 @@ module _ (m₀ : List ℕ) (c : ℕ) (map : List ℕ) (ad : Admitted m₀ c map)
         Rules (Jsr low) → Done (pushes 2) (u .s) k (ends c (perform (Jsr low) (withPc p u)) m)
     unfolding rulesOf perform jsr ends _>>=_
     does-jsr low p h on code to t =
-        let s = g .bytes .s in
+        let s = g .registers .s in
         let s₁ : down 1 (u .s) < 256 = omega arith in
         let whole : address (p % 256) (p / 256) ≡ p = omega arith in
         let m₁ = set m (stack (u .s)) (p / 256) in
         let m₂ = set m₁ (stack (down 1 (u .s))) (p % 256) in
-        let code₁ = set-code m (stack (u .s)) (p / 256) (stack-open (u .s) s) (g .code) in
-        let code₂ = set-code m₁ (stack (down 1 (u .s))) (p % 256) (stack-open (down 1 (u .s)) s₁) code₁ in
-        let there = ap (address low) (code₂ p code) ∙ to in
+        let image = pushed-image m₁ (down 1 (u .s)) (p % 256) s₁ (omega arith) (pushed-image m (u .s) (p / 256) s (omega arith) (g .image)) in
+        let there = ap (address low) (image .code p code) ∙ to in
         rw (stack-open (u .s) s, stack-page (u .s) s, stack-open (down 1 (u .s)) s₁, stack-page (down 1 (u .s)) s₁)
         (record {
           only = refl;
           next =
               record {
                 stands =
-                    calls map (ad .N) (u .s) (u .p .i) (u .pc) m k v few s (g .size) (p % 256) (p / 256) n (address low (at m₂ p)) (rw whole on)
+                    calls map (ad .N) (u .s) (u .p .i) (u .pc) m k v few s (g .image .size) (p % 256) (p / 256) n (address low (at m₂ p)) (rw whole on)
                     (follows n (t .0)) (rw there (leads-to map _ routine 0 2 (mark .need) (t .1 .0)));
-                bytes = let r = g .bytes in record { a = r .a; x = r .x; y = r .y; s = omega arith };
-                size = length-set m₁ (stack (down 1 (u .s))) (p % 256) ∙ length-set m (stack (u .s)) (p / 256) ∙ g .size;
-                image = set-byte m₁ (stack (down 1 (u .s))) (p % 256) (omega arith) (set-byte m (stack (u .s)) (p / 256) (omega arith) (g .image));
-                code = code₂;
+                registers = let r = g .registers in record { a = r .a; x = r .x; y = r .y; s = omega arith };
+                image = image;
               };
         })
 
@@ -334,7 +330,7 @@ module _ (m₀ : List ℕ) (c : ℕ) (map : List ℕ) (ad : Admitted m₀ c map)
     performs Brk wide x e h t = absurd (false≢true (t .0))
     performs Php wide x e h t = does-push (byteOf4 (u .p)) (p-byte (u .p)) (leads-to map n (mark .kind) (mark .height + 1) 1 (mark .need) (t .0))
     performs Plp wide x e h t = absurd (false≢true (t .0))
-    performs Pha wide x e h t = does-push (u .a) (g .bytes .a) (leads-to map n (mark .kind) (mark .height + 1) 1 (mark .need) (t .0))
+    performs Pha wide x e h t = does-push (u .a) (g .registers .a) (leads-to map n (mark .kind) (mark .height + 1) 1 (mark .need) (t .0))
     performs Pla wide x e h t = does-pla t
     performs Txs wide x e h t = does-txs t
     performs Cli wide x e h t = does-cli t

@@ -26,7 +26,7 @@ use Rattle.rules.proofs.Marks.{Admitted, admitted}
 use Rattle.rules.proofs.Ends.{End, ends, look-6502, Ended, run-ends, listed-writes}
 use Rattle.rules.proofs.Places.{Bytes}
 use Rattle.rules.proofs.Performs.{Ready, few}
-use Rattle.rules.proofs.Events.{effectHere, Well, well-reset, well, others}
+use Rattle.rules.proofs.Events.{effectHere, Well, well-reset, well, others-image, others}
 
 -- a record of a 6502 with c protected pages
 pub record Sixteen (c : ℕ) (r : List ℕ) : Type 0 where
@@ -159,7 +159,7 @@ module _ (m₀ : List ℕ) (c : ℕ) (map : List ℕ) (ad : Admitted m₀ c map)
   steps [] r m k six ready = tt
   steps (g ∷ gs) r m k six ready = λ o p.
       let now = others m₀ c map ad (cpuIn r) m (g .image) k ready o in
-      let size = now .size in
+      let size = now .image .size in
       let w = well m₀ c map ad (cpuIn r) (g .image) k now (g .lines) (stateIn r g .nmi) (p .quiet) in
       (fine r g k six size p w, steps gs _ _ _ (again r g k six size p w) (after-step r g k six size p w .ready))
 
@@ -174,11 +174,11 @@ module _ (m₀ : List ℕ) (c : ℕ) (map : List ℕ) (ad : Admitted m₀ c map)
       let k : Stacked = record { pushed = 0; pulled = 0 } in
       let six = sixteen c r x in
       let registers = register-bytes c r x in
-      let size = o .size ∙ ad .size in
+      let image = others-image m₀ c map ad m₀ (g .image) (ad .size) (λ q h. refl) o in
       let event = res-first (g .lines) (stateIn r g .nmi) (cpuIn r) first in
       let w = subst (λ (e : Event). Well m₀ c map ad e (cpuIn r) (g .image) k) (sym event)
-      (well-reset m₀ c map ad (cpuIn r) (g .image) k registers size (o .bytes) (o .protectedPages)) in
-      (fine r g k six size p w, steps gs _ _ _ (again r g k six size p w) (after-step r g k six size p w .ready))
+      (well-reset m₀ c map ad (cpuIn r) (g .image) k registers image) in
+      (fine r g k six (image .size) p w, steps gs _ _ _ (again r g k six (image .size) p w) (after-step r g k six (image .size) p w .ready))
 
 pub demand3 : Demand3
 demand3 m c map e = all-steps m c map (admitted m c map e)

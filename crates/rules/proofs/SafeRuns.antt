@@ -75,7 +75,7 @@ module _ (m₀ : List ℕ) (c : ℕ) (map : List ℕ) (ad : Admitted m₀ c map)
   plays (lines ∷ []) s b p room = absurd p
   plays (lines ∷ pins ∷ rest) s b p room =
       let r = b .ready in
-      one lines pins rest s (b .k) (b .six) (r .size) p room
+      one lines pins rest s (b .k) (b .six) (r .image .size) p room
       (well m₀ c map ad (cpuIn (s .state)) (s .image) (b .k) r lines (stateIn (s .state) (givenAt lines pins s) .nmi) (p .1))
       (λ t bt rt. plays rest t bt (p .3) rt)
 
@@ -95,7 +95,7 @@ plays-out m c map e r x bytes lines pins rest buffer first p room =
     (eq-eqb _ _ (x .size), (x .formed, (rw (x .part, ad .size), (eq-eqb _ _ (even script p), tt)))) in
     let event = res-first m c map ad lines (stateIn r (givenAt lines pins s) .nmi) (cpuIn r) first in
     let w = subst (λ (v : Event). Well m c map ad v (cpuIn r) m k) (sym event)
-    (well-reset m c map ad (cpuIn r) m k (register-bytes c r x) (ad .size) bytes (λ q h. refl)) in
+    (well-reset m c map ad (cpuIn r) m k (register-bytes c r x) (record { size = ad .size; bytes = bytes; code = λ q h. refl })) in
     let played = one m c map ad lines pins rest s k (sixteen c r x) (ad .size) p (omega arith) w (λ t bt rt. plays m c map ad rest t bt (p .3) rt) in
     let zero : 0 + length script / 2 ≡ length script / 2 = omega arith in (
       played .0,
