@@ -1,14 +1,22 @@
-// Addresses and their two bytes, places in the stack's page.
+// Addresses and their two bytes, where a branch goes, places in the stack's page.
 
 ghost use mathlib.Core.Path.{_≡_};
 ghost use Rattle.rules.specs.Basics.{address};
-ghost use Rattle.rules.specs.Operations.{stack, down};
+ghost use Rattle.rules.specs.Operations.{target, stack, down};
 
 // An address of its low and its high byte.
 pub fn join(low: u8, high: u8) -> u16
     ensures { λ r. ⌜ r ≡ address low high ⌝ }
 {
     high as u16 * 256 + low as u16
+}
+
+// Where a branch goes: the next instruction's address, and a signed offset.
+pub fn target(next: u16, o: u8) -> u16
+    ensures { λ r. ⌜ r ≡ target next o ⌝ }
+{
+    let up = std::num::wrapping_add_u8(o, 128) as u16;
+    std::num::wrapping_add_u16(std::num::wrapping_add_u16(next, up), 65408)
 }
 
 // Where S points.

@@ -19,7 +19,7 @@ ghost use Rattle.rules.specs.Record.{recordOf};
 ghost use Rattle.rules.specs.Basics.{sum8};
 ghost use Rattle.rules.specs.Addressing.{bankOf};
 ghost use Rattle.rules.specs.Arithmetic.{changed};
-ghost use Rattle.rules.specs.Operations.{withP, withS, withPc, withResult, registerOf, target, taken, stack, push, jsr, rts, rti, jumpIndirect, perform, next, operate};
+ghost use Rattle.rules.specs.Operations.{withP, withS, withPc, withResult, registerOf, taken, stack, push, jsr, rts, rti, jumpIndirect, perform, next, operate};
 ghost use Rattle.rules.specs.Opcodes.{decode, isDefined};
 ghost use Rattle.table.specs.Numbers.{numberOf};
 ghost use Rattle.rules.specs.Flags.{withI};
@@ -140,13 +140,6 @@ fn taken(t: Condition, f: Flags) -> bool
     }
 }
 
-fn target(next: u16, o: u8) -> u16
-    ensures { λ r. ⌜ r ≡ target next o ⌝ }
-{
-    let up = std::num::wrapping_add_u8(o, 128) as u16;
-    std::num::wrapping_add_u16(std::num::wrapping_add_u16(next, up), 65408)
-}
-
 // "Branch: offset; if taken, read the next instruction's address". PC stands there.
 fn branch(t: Condition, o: u8, state: &mut [u8], w: Wiring, image: &[u8], list: &mut [u8]) -> usize
     requires { ⌜ Ready w (length (now state)) (length (now image)) (length (now list)) ⌝ }
@@ -154,7 +147,7 @@ fn branch(t: Condition, o: u8, state: &mut [u8], w: Wiring, image: &[u8], list: 
 {
     if taken(t, state::flags_of(state)) {
         let pc = state::pc_of(state);
-        let to = target(pc, o);
+        let to = bytes::target(pc, o);
         bus::read(state, w, image, list, 2, pc);
         if to / 256 == pc / 256 {
             state::set_pc(state, to);

@@ -7,7 +7,8 @@ use lib.Dec.{eqb}
 use lib.ListN.{getD}
 use Rattle.rules.specs.declared.Instruction.{Instruction}
 use Rattle.rules.specs.declared.Instruction.the-variants.{Cli}
-use Rattle.rules.specs.Opcodes.{Entry, undefined, alone, byte, word, late, decode, isDefined, ofInstruction}
+use Rattle.rules.specs.Basics.{if_then_else_}
+use Rattle.rules.specs.Opcodes.{Entry, undefined, alone, byte, word, late, decode, sizeOf, isDefined, ofInstruction}
 use Rattle.rules.specs.Table.{table}
 use Rattle.rules.proofs.Table.{table-at}
 use Rattle.table.specs.Numbers.{number, numberOf, made, fetched, fetchedBy}
@@ -37,6 +38,14 @@ fetches : map (λ (e : Entry). fetched (numberOf e)) table ≡ map fetchedBy tab
 unfolding table number numberOf fetched
 fetches = refl
 
+-- JSR's high operand is no byte that is fetched first, but one of the instruction's
+abbrev sizedBy : Entry → ℕ
+sizedBy e = if eqb (numberOf e) 240 then 3 else fetched (numberOf e)
+
+sizes : map sizedBy table ≡ map sizeOf table
+unfolding table number numberOf fetched
+sizes = refl
+
 defines : map (λ (e : Entry). eqb (numberOf e) 255) table ≡ map (λ (e : Entry). not (isDefined e)) table
 unfolding table number numberOf
 defines = refl
@@ -46,6 +55,9 @@ made-is n low high h = everywhere (byNumber low high) (byEntry low high) (makes 
 
 pub fetched-is : (n : ℕ) → n < 256 → fetched (numberOf (decode n)) ≡ fetchedBy (decode n)
 fetched-is n h = everywhere (λ (e : Entry). fetched (numberOf e)) fetchedBy fetches n h
+
+pub sized-is : (n : ℕ) → n < 256 → (if eqb (numberOf (decode n)) 240 then 3 else fetched (numberOf (decode n))) ≡ sizeOf (decode n)
+sized-is n h = everywhere sizedBy sizeOf sizes n h
 
 pub defined-is : (n : ℕ) → n < 256 → eqb (numberOf (decode n)) 255 ≡ not (isDefined (decode n))
 defined-is n h = everywhere (λ (e : Entry). eqb (numberOf e) 255) (λ (e : Entry). not (isDefined e)) defines n h

@@ -162,7 +162,7 @@ const TXS: u8 = 248;
 const CLI: u8 = 249;
 
 // "the other 105 are undefined"
-const UNDEFINED: u8 = 255;
+pub const UNDEFINED: u8 = 255;
 
 // "The 151 opcodes stand in a table of 256 entries"
 const TABLE: [u8; 256] = [

@@ -1,0 +1,21 @@
+use Rattle.rules.specs.Admission.{vectorsHold}
+use Rattle.admission.proofs.Maps.{rooms}
+use borrow.Author.Needs.{needs}
+use Rattle.admission.proofs.vectors_hold.Statement.{statement}
+use Rattle.admission.proofs.vectors_hold.Tie as tie
+
+returns : tie.Need-returns
+unfolding vectorsHold
+returns c = λ k. rooms _ _ _ _ _ (rw (c .before .before .before .word-at .ensures) at (c .before .before .need-at .ensures)) (rw (c .before .word-at2 .ensures) at (c .need-at2 .ensures))
+
+pub vectors-hold-spec : {M : Type 1} → statement M
+vectors-hold-spec =
+    tie.close
+    (tie.spec
+    (λ c κs. search needs)
+    (λ c κs. search needs)
+    (λ c κs. search needs)
+    (λ c κs. search needs)
+    (λ c. search needs)
+    (λ c. search needs)
+    returns)

@@ -1,0 +1,442 @@
+// The judgement of an image with its map: "it accepts exactly when all the rules above hold".
+
+use rules::Instruction;
+use rules::Mode;
+use rules::Refusal;
+use rules::Verdict;
+ghost use Prim.Native.Nat.{ℕ, _+_, _≤_, _<_};
+ghost use mathlib.Core.Path.{_≡_};
+ghost use mathlib.Core.Bool.{true, false, not, _&&_};
+ghost use lib.Dec.{eqb};
+ghost use lib.ListN.{length};
+ghost use Rattle.rules.specs.declared.Verdict.{Verdict};
+ghost use Rattle.rules.specs.declared.Verdict.the-variants.{Accepted, Barred};
+ghost use Rattle.rules.specs.Basics.{if_then_else_, at, address, sum16};
+ghost use Rattle.rules.specs.Opcodes.{decode};
+ghost use Rattle.rules.specs.Answers.{tested};
+ghost use Rattle.rules.specs.Bus.{images};
+ghost use Rattle.rules.specs.Admission.{marksIn, marked, ascends, inputFits, vectorsHold, ofRecords, ruleTests, admit};
+ghost use Rattle.table.specs.Numbers.{numberOf, fetched};
+ghost use Rattle.admission.specs.Rules.{markOf, goesTo, goesOn, one, unless, outside, stored, isAtZero, pulled, calls, rulesFor, asks, settled};
+ghost use Rattle.admission.specs.Maps.{formed, Formed, Ascending, Found, NeedAt};
+
+// "kind (1 main, 2 routine, 3 handler)"
+const MAIN: u8 = 1;
+
+const ROUTINE: u8 = 2;
+
+const HANDLER: u8 = 3;
+
+// More than any need or room.
+const NONE: usize = 65536;
+
+// A record of the map.
+struct Mark {
+    address: u16,
+    kind: u8,
+    height: u8,
+    need: u8,
+}
+
+// What is asked of a successor: to be marked with this kind and height, and a need that with `more` is at most `limit`.
+struct Successor {
+    address: u16,
+    kind: u8,
+    height: u16,
+    more: u16,
+    limit: u16,
+}
+
+// What an instruction's own rules (13 to 15) say: they are broken, or the first so many of two successors are asked for.
+enum Rules {
+    Broken(Refusal),
+    Leads(u8, Successor, Successor),
+}
+
+fn mark_at(map: &[u8], i: usize) -> Mark
+    requires { ⌜ i < marksIn (now map) ⌝ }
+    ensures { λ r. ⌜ r ≡ markOf (now (map .entry)) i ⌝ }
+{
+    let k = 8 * i;
+    Mark {
+        address: bytes::join(map[k], map[k + 1]),
+        kind: map[k + 2],
+        height: map[k + 3],
+        need: map[k + 4],
+    }
+}
+
+// "strictly ascending address"
+fn ascends(map: &[u8], i: usize) -> bool
+    requires { ⌜ i < marksIn (now map) ⌝ }
+    ensures { λ r. ⌜ r ≡ ascends (now (map .entry)) i ⌝ }
+{
+    if i == 0 {
+        return true;
+    }
+    let before = mark_at(map, i - 1);
+    let m = mark_at(map, i);
+    before.address < m.address
+}
+
+// "kind (1 main, 2 routine, 3 handler), height, need, three zeros"
+fn is_formed(map: &[u8], i: usize) -> bool
+    requires { ⌜ i < marksIn (now map) ⌝ }
+    ensures { λ r. ⌜ r ≡ formed (now (map .entry)) i ⌝ }
+{
+    let k = 8 * i;
+    let kind = map[k + 2];
+    if kind < MAIN {
+        return false;
+    }
+    if kind > HANDLER {
+        return false;
+    }
+    if map[k + 5] != 0 {
+        return false;
+    }
+    if map[k + 6] != 0 {
+        return false;
+    }
+    if map[k + 7] != 0 {
+        return false;
+    }
+    ascends(map, i)
+}
+
+// 11: the first record that is "malformed or not ascending"; where there is none, how many there are.
+fn first_malformed(map: &[u8]) -> usize
+    ensures { λ r. ⌜ Formed (now (map .entry)) r ⌝ }
+{
+    let n = map.len() / 8;
+    let mut i: usize = 0;
+    while i < n {
+        if !is_formed(map, i) {
+            return i;
+        }
+        i = i + 1;
+    }
+    n
+}
+
+// The first record whose address is not below this one, by halving; where there is none, how many there are.
+fn find(map: &[u8], address: u16) -> usize
+    requires { ⌜ Ascending (now map) ⌝ }
+    ensures { λ r. ⌜ Found (now (map .entry)) address r ⌝ }
+{
+    let mut low: usize = 0;
+    let mut high = map.len() / 8;
+    while low < high {
+        let middle = (low + high) / 2;
+        let m = mark_at(map, middle);
+        if m.address < address {
+            low = middle + 1;
+        } else {
+            high = middle;
+        }
+    }
+    low
+}
+
+fn is_mark(m: Mark, address: u16, kind: u8, height: u16) -> bool
+    ensures { λ r. ⌜ r ≡ (eqb (m .address) address && eqb (m .kind) kind && eqb (m .height) height) ⌝ }
+{
+    if m.address != address {
+        return false;
+    }
+    if m.kind != kind {
+        return false;
+    }
+    m.height as u16 == height
+}
+
+// The need of the record with this address, kind and height; where there is none, NONE.
+fn need_at(map: &[u8], address: u16, kind: u8, height: u16) -> usize
+    requires { ⌜ Ascending (now map) ⌝ }
+    ensures { λ r. ⌜ NeedAt (now (map .entry)) address kind height r ⌝ }
+{
+    let i = find(map, address);
+    if i == map.len() / 8 {
+        return NONE;
+    }
+    let m = mark_at(map, i);
+    if is_mark(m, address, kind, height) {
+        return m.need as usize;
+    }
+    NONE
+}
+
+fn leads_to(map: &[u8], s: Successor) -> bool
+    requires { ⌜ Ascending (now map) ⌝ }
+    ensures { λ r. ⌜ ((i : ℕ) → r ≡ asks (now (map .entry)) i s .holds) ⌝ }
+{
+    need_at(map, s.address, s.kind, s.height) + s.more as usize <= s.limit as usize
+}
+
+fn word_at(image: &[u8], p: u16) -> u16
+    requires { ⌜ length (now image) ≡ 65536 ⌝ }
+    ensures { λ r. ⌜ r ≡ address (at (now (image .entry)) p) (at (now (image .entry)) (sum16 p 1)) ⌝ }
+{
+    bytes::join(
+        image[p as usize],
+        image[std::num::wrapping_add_u16(p, 1) as usize],
+    )
+}
+
+// 12: "FFFC points to main, FFFE to handler, both height 0; their needs + 3 make at most 256"
+fn vectors_hold(image: &[u8], map: &[u8]) -> bool
+    requires { ⌜ (length (now image) ≡ 65536) × Ascending (now map) ⌝ }
+    ensures { λ r. ⌜ ((c : ℕ) → r ≡ vectorsHold images (now (image .entry)) c (now (map .entry))) ⌝ }
+{
+    let main = need_at(map, word_at(image, 0xFFFC), MAIN, 0);
+    let handler = need_at(map, word_at(image, 0xFFFE), HANDLER, 0);
+    main + handler + 3 <= 256
+}
+
+// "Each successor .. is marked with the same kind"
+fn goes_to(m: Mark, address: u16, height: u16, more: u16, limit: u16) -> Successor
+    ensures { λ r. ⌜ r ≡ goesTo m address height more limit ⌝ }
+{
+    Successor {
+        address: address,
+        kind: m.kind,
+        height: height,
+        more: more,
+        limit: limit,
+    }
+}
+
+// "all others equal height, need at most this one"
+fn goes_on(m: Mark, address: u16) -> Successor
+    ensures { λ r. ⌜ r ≡ goesOn m address ⌝ }
+{
+    goes_to(m, address, m.height as u16, 0, m.need as u16)
+}
+
+fn one(s: Successor) -> Rules
+    ensures { λ r. ⌜ r ≡ one s ⌝ }
+{
+    Rules::Leads(1, s, s)
+}
+
+fn unless(holds: bool, e: Refusal, r: Rules) -> Rules
+    ensures { λ q. ⌜ q ≡ unless holds e r ⌝ }
+{
+    if holds { r } else { Rules::Broken(e) }
+}
+
+// "not .. to 01FF"
+fn outside(least: u16, a: u16) -> bool
+    ensures { λ r. ⌜ r ≡ outside least a ⌝ }
+{
+    if a < least {
+        return true;
+    }
+    a > 0x01FF
+}
+
+// 14: "Stores, shifts, INC, DEC: absolute address not 0100 to 01FF; a,X or a,Y base not 0001 to 01FF"; and 13: "not .. 81, 91"
+fn stored(md: Mode, i: u16, r: Rules) -> Rules
+    ensures { λ q. ⌜ q ≡ stored md i r ⌝ }
+{
+    match md {
+        Mode::Immediate(_) => r,
+        Mode::Zero(_) => r,
+        Mode::ZeroX(_) => r,
+        Mode::ZeroY(_) => r,
+        Mode::Absolute(a) => unless(outside(0x0100, a), Refusal::StoreAddress(i), r),
+        Mode::AbsoluteX(a) => unless(outside(0x0001, a), Refusal::StoreAddress(i), r),
+        Mode::AbsoluteY(a) => unless(outside(0x0001, a), Refusal::StoreAddress(i), r),
+        Mode::IndirectX(_) => Rules::Broken(Refusal::Place(i)),
+        Mode::IndirectY(_) => Rules::Broken(Refusal::Place(i)),
+        Mode::IndirectBankY(_) => Rules::Broken(Refusal::Place(i)),
+    }
+}
+
+fn is_at_zero(m: Mark, kind: u8) -> bool
+    ensures { λ r. ⌜ r ≡ isAtZero m kind ⌝ }
+{
+    if m.kind != kind {
+        return false;
+    }
+    m.height == 0
+}
+
+// "PLA: height at least 1"; "PLA height one less, successor's need at most need + 1"
+fn pulled(m: Mark, next: u16, i: u16) -> Rules
+    ensures { λ r. ⌜ r ≡ pulled m next i ⌝ }
+{
+    if m.height == 0 {
+        return Rules::Broken(Refusal::Stack(i));
+    }
+    one(goes_to(m, next, m.height as u16 - 1, 0, m.need as u16 + 1))
+}
+
+// "JSR's target is also a routine of height 0, its need + 2 at most this need."
+fn calls(m: Mark, routine: u16) -> Successor
+    ensures { λ r. ⌜ r ≡ calls m routine ⌝ }
+{
+    Successor {
+        address: routine,
+        kind: ROUTINE,
+        height: 0,
+        more: 2,
+        limit: m.need as u16,
+    }
+}
+
+// The rules of an instruction at a record; `next` is the next address, `routine` JSR's target.
+fn rules_for(ins: Instruction, m: Mark, next: u16, routine: u16, i: u16) -> Rules
+    ensures { λ r. ⌜ r ≡ rulesFor m next routine i ins ⌝ }
+{
+    let on = goes_on(m, next);
+    let up = goes_to(m, next, m.height as u16 + 1, 1, m.need as u16);
+    match ins {
+        Instruction::Read(_, _) => one(on),
+        Instruction::Store(_, md) => stored(md, i, one(on)),
+        Instruction::Change(_, md) => stored(md, i, one(on)),
+        Instruction::Accumulator(_) => one(on),
+        Instruction::Implied(_) => one(on),
+        Instruction::Branch(_, o) => Rules::Leads(2, on, goes_on(m, bytes::target(next, o))),
+        Instruction::Jump(a) => one(goes_on(m, a)),
+        Instruction::JumpIndirect(_) => Rules::Broken(Refusal::Place(i)),
+        Instruction::Jsr(_) => Rules::Leads(2, on, calls(m, routine)),
+        Instruction::Rts => unless(
+            is_at_zero(m, ROUTINE),
+            Refusal::Stack(i),
+            Rules::Leads(0, on, on),
+        ),
+        Instruction::Rti => unless(
+            is_at_zero(m, HANDLER),
+            Refusal::Stack(i),
+            Rules::Leads(0, on, on),
+        ),
+        Instruction::Brk => Rules::Broken(Refusal::Place(i)),
+        Instruction::Php => one(up),
+        Instruction::Plp => Rules::Broken(Refusal::Place(i)),
+        Instruction::Pha => one(up),
+        Instruction::Pla => pulled(m, next, i),
+        Instruction::Txs => unless(is_at_zero(m, MAIN), Refusal::Stack(i), one(on)),
+        Instruction::Cli => unless(m.kind == MAIN, Refusal::Stack(i), one(on)),
+    }
+}
+
+// How many bytes an instruction is long. JSR's high operand is fetched by the instruction itself.
+fn size_of(entry: u8) -> u16
+    ensures { λ r. ⌜ r ≡ (if eqb entry 240 then 3 else fetched entry) ⌝ }
+{
+    if entry == table::JSR {
+        return 3;
+    }
+    decode::fetched(entry)
+}
+
+fn entry_at(image: &[u8], p: u16) -> u8
+    requires { ⌜ length (now image) ≡ 65536 ⌝ }
+    ensures { λ r. ⌜ (r ≡ numberOf (decode (at (now (image .entry)) p))) × (at (now (image .entry)) p < 256) ⌝ }
+{
+    table::entry_of(image[p as usize])
+}
+
+// Record i's own rules. 13: "place, undefined or barred opcode"; the others are the instruction's.
+fn rules_at(image: &[u8], c: u8, map: &[u8], i: usize) -> Rules
+    requires { ⌜ (length (now image) ≡ 65536) × (i < marksIn (now map)) × (i < 65536) ⌝ }
+    ensures { λ r. ⌜ ((v : Verdict) → tested (ruleTests images (now (image .entry)) c (now (map .entry)) i) Barred v ≡ settled (now (map .entry)) i r v) ⌝ }
+{
+    let index = i as u16;
+    let m = mark_at(map, i);
+    let a = m.address;
+    if a / 256 < 256 - c as u16 {
+        return Rules::Broken(Refusal::Place(index));
+    }
+    let entry = entry_at(image, a);
+    let size = size_of(entry);
+    if a as usize + size as usize > 65536 {
+        return Rules::Broken(Refusal::Place(index));
+    }
+    if entry == table::UNDEFINED {
+        return Rules::Broken(Refusal::Place(index));
+    }
+    let low = image[std::num::wrapping_add_u16(a, 1) as usize];
+    let high = image[std::num::wrapping_add_u16(a, 2) as usize];
+    rules_for(
+        decode::instruction_of(entry, low, high),
+        m,
+        std::num::wrapping_add_u16(a, size),
+        bytes::join(low, high),
+        index,
+    )
+}
+
+// 13 to 16: "the lowest record, and at it the lowest number". The loop over the records and the one over a record's successors are both left
+// by the label at the first broken rule.
+fn judge(image: &[u8], c: u8, map: &[u8]) -> Verdict
+    requires { ⌜ ((length (now image) ≡ 65536) × (length (now map) ≤ 65536)) × Ascending (now map) ⌝ }
+    ensures { λ r. ⌜ r ≡ tested (ofRecords (ruleTests images (now (image .entry)) c (now (map .entry))) 0 (marksIn (now (map .entry)))) Barred Accepted ⌝ }
+{
+    let n = map.len() / 8;
+    let mut i: usize = 0;
+    let mut verdict = Verdict::Accepted;
+    'records: while i < n {
+        match rules_at(image, c, map, i) {
+            Rules::Broken(e) => {
+                verdict = Verdict::Barred(e);
+                break 'records;
+            }
+            Rules::Leads(count, first, second) => {
+                let mut left = count;
+                let mut successor = first;
+                while left > 0 {
+                    if !leads_to(map, successor) {
+                        verdict = Verdict::Barred(Refusal::Successor(i as u16));
+                        break 'records;
+                    }
+                    successor = second;
+                    left = left - 1;
+                }
+            }
+        }
+        i = i + 1;
+    }
+    verdict
+}
+
+// 10: "image length, c, map length 0, over 65,536 or no multiple of 8"
+fn input_fits(image: &[u8], c: u8, map: &[u8]) -> bool
+    ensures { λ r. ⌜ r ≡ inputFits images (now (image .entry)) c (now (map .entry)) ⌝ }
+{
+    let n = map.len();
+    if image.len() != 65536 {
+        return false;
+    }
+    if c < 1 {
+        return false;
+    }
+    if c > 254 {
+        return false;
+    }
+    if n < 1 {
+        return false;
+    }
+    if n > 65536 {
+        return false;
+    }
+    n % 8 == 0
+}
+
+// "Admission: 10; 11, first record; 12; then the lowest record, and at it the lowest number."
+pub fn admit(image: &[u8], c: u8, map: &[u8]) -> Verdict
+    ensures exact { λ r. ⌜ r ≡ admit images (now (image .entry)) c (now (map .entry)) ⌝ }
+{
+    if !input_fits(image, c, map) {
+        return Verdict::Barred(Refusal::Admission);
+    }
+    let bad = first_malformed(map);
+    if bad < map.len() / 8 {
+        return Verdict::Barred(Refusal::MapRecord(bad as u16));
+    }
+    if !vectors_hold(image, map) {
+        return Verdict::Barred(Refusal::Vectors);
+    }
+    judge(image, c, map)
+}
