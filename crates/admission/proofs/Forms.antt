@@ -16,7 +16,7 @@ use Rattle.rules.specs.Answers.{tested}
 use Rattle.rules.specs.Admission.{main, handler, markAt, marksIn, ascends, ofRecords, formTests}
 use Rattle.rules.proofs.Tests.{and-right}
 use Rattle.admission.specs.Maps.{shaped, formed, Formed, Ascending}
-use Rattle.admission.proofs.Judged.{from, all-passed, record-first}
+use Rattle.admission.proofs.Judged.{from, no-record, record-first}
 
 joined : {A : Type 0} (a b c d e f : Bool) (x y : A) →
     (if a && b then if c && d && e then if f then x else y else y else y) ≡ (if a && b && c && d && e && f then x else y)
@@ -55,7 +55,7 @@ module _ (map : List ℕ) where
         reaches ∙ record-first (formTests map) r (marksIn map) v h ∙ form-is r (from (formTests map) (r + 1) (marksIn map) v) ∙ (rw (f .bad h))
 
     pub all-formed : marksIn map ≤ r → forms ≡ v
-    all-formed h = reaches ∙ all-passed (formTests map) r (marksIn map) v h
+    all-formed h = reaches ∙ no-record (formTests map) r (marksIn map) v h
 
   pub ascending : (r : ℕ) → Formed map r → marksIn map ≤ r → Ascending map
   ascending r f h = record { ascends = go }

@@ -19,7 +19,7 @@ use Rattle.rules.specs.Admission.{main, routine, handler, next, wordAt, storeTe
 use Rattle.admission.specs.declared.Mark.{Mark}
 use Rattle.admission.specs.declared.Rules.{Rules}
 use Rattle.admission.specs.declared.Rules.the-variants.{Leads}
-use Rattle.admission.specs.Rules.{markOf, unless, outside, stored, goesTo, goesOn, one, isAtZero, rulesFor, settled}
+use Rattle.admission.specs.Rules.{markOf, rulesUnless, outside, stored, goesTo, goesOn, one, isAtZero, rulesFor, settled}
 
 -- tests after others
 pub tested-append : (a b : List Test) (v : Verdict) → tested (a ++ b) Barred v ≡ tested a Barred (tested b Barred v)
@@ -28,7 +28,7 @@ tested-append (t ∷ a) b v = ap (λ (w : Verdict). if t .holds then w else Barr
 
 module _ (map : List ℕ) (i : ℕ) where
   settled-unless : (b : Bool) (e : Refusal) (r : Rules) (v : Verdict) →
-      (if b then settled map i r v else Barred e) ≡ settled map i (unless b e r) v
+      (if b then settled map i r v else Barred e) ≡ settled map i (rulesUnless b e r) v
   settled-unless true e r v = refl
   settled-unless false e r v = refl
 

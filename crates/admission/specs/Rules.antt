@@ -9,13 +9,13 @@ use Rattle.rules.specs.declared.Instruction.{Instruction}
 use Rattle.rules.specs.declared.Instruction.the-variants.{Read, Store, Change, Accumulator, Implied, Branch, Jump, JumpIndirect, Jsr, Rts, Rti, Brk, Php, Plp, Pha, Pla, Txs, Cli}
 use Rattle.rules.specs.declared.Refusal.{Refusal}
 use Rattle.rules.specs.declared.Refusal.the-variants.{Place, StoreAddress, Stack}
+use Rattle.rules.specs.declared.Refusal.the-variants as refusal
 use Rattle.rules.specs.declared.Verdict.{Verdict}
 use Rattle.rules.specs.declared.Verdict.the-variants.{Barred}
 use Rattle.rules.specs.Basics.{if_then_else_}
 use Rattle.rules.specs.Operations.{target}
-use Rattle.rules.specs.Answers.{Test, tested}
-use Rattle.rules.specs.Bus.{images}
-use Rattle.rules.specs.Admission.{markAt, main, routine, handler, leadsTo}
+use Rattle.rules.specs.Answers.{Test, _unless_, tested}
+use Rattle.rules.specs.Admission.{markAt, marked, isMark, main, routine, handler}
 use Rattle.admission.specs.declared.Mark.{Mark}
 use Rattle.admission.specs.declared.Successor.{Successor}
 use Rattle.admission.specs.declared.Rules.{Rules}
@@ -33,8 +33,8 @@ markOf map i =
 abbrev pub one : Successor → Rules
 one s = Leads 1 s s
 
-abbrev pub unless : Bool → Refusal → Rules → Rules
-unless b e r = if b then r else Broken e
+abbrev pub rulesUnless : Bool → Refusal → Rules → Rules
+rulesUnless b e r = if b then r else Broken e
 
 abbrev pub outside : ℕ → ℕ → Bool
 outside least a = not (leb least a && leb a 0x01FF)
@@ -44,9 +44,9 @@ stored (Immediate v) i r = r
 stored (Zero z) i r = r
 stored (ZeroX z) i r = r
 stored (ZeroY z) i r = r
-stored (Absolute a) i r = unless (outside 0x0100 a) (StoreAddress i) r
-stored (AbsoluteX a) i r = unless (outside 0x0001 a) (StoreAddress i) r
-stored (AbsoluteY a) i r = unless (outside 0x0001 a) (StoreAddress i) r
+stored (Absolute a) i r = rulesUnless (outside 0x0100 a) (StoreAddress i) r
+stored (AbsoluteX a) i r = rulesUnless (outside 0x0001 a) (StoreAddress i) r
+stored (AbsoluteY a) i r = rulesUnless (outside 0x0001 a) (StoreAddress i) r
 stored (IndirectX z) i r = Broken (Place i)
 stored (IndirectY z) i r = Broken (Place i)
 stored (IndirectBankY z) i r = Broken (Place i)
@@ -65,7 +65,7 @@ module _ (m : Mark) where
   isAtZero kind = eqb (m .kind) kind && eqb (m .height) 0
 
   abbrev pub pulled : ℕ → ℕ → Rules
-  pulled next i = unless (leb 1 (m .height)) (Stack i) (one (goesTo next (m .height - 1) 0 (m .need + 1)))
+  pulled next i = rulesUnless (leb 1 (m .height)) (Stack i) (one (goesTo next (m .height - 1) 0 (m .need + 1)))
 
   -- the rules of an instruction: the next address, and JSR's target
   module _ (next call i : ℕ) where
@@ -88,25 +88,25 @@ module _ (m : Mark) where
     rulesFor (Jump a) = one (goesOn a)
     rulesFor (JumpIndirect a) = Broken (Place i)
     rulesFor (Jsr low) = Leads 2 (goesOn next) (calls call)
-    rulesFor Rts = unless (isAtZero routine) (Stack i) last
-    rulesFor Rti = unless (isAtZero handler) (Stack i) last
+    rulesFor Rts = rulesUnless (isAtZero routine) (Stack i) last
+    rulesFor Rti = rulesUnless (isAtZero handler) (Stack i) last
     rulesFor Brk = Broken (Place i)
     rulesFor Php = up
     rulesFor Plp = Broken (Place i)
     rulesFor Pha = up
     rulesFor Pla = pulled next i
-    rulesFor Txs = unless (isAtZero main) (Stack i) on
-    rulesFor Cli = unless (eqb (m .kind) main) (Stack i) on
+    rulesFor Txs = rulesUnless (isAtZero main) (Stack i) on
+    rulesFor Cli = rulesUnless (eqb (m .kind) main) (Stack i) on
+
+-- a successor is marked as is asked
+abbrev pub reached : List ℕ → Successor → Bool
+reached map s = marked map λ n. isMark (s .address) (s .kind) (s .height) n && leb (n .need + s .more) (s .limit)
 
 module _ (map : List ℕ) (i : ℕ) where
-  -- what is asked of a successor, as a test of rules
-  abbrev pub asks : Successor → Test
-  asks s = leadsTo images [] 0 map i (s .address) (s .kind) (s .height) (s .more) (s .limit)
-
-  -- n of two successors
+  -- the tests of n successors: s, and t
   abbrev pub leads : ℕ → Successor → Successor → List Test
   leads zero s t = []
-  leads (suc n) s t = asks s ∷ leads n t t
+  leads (suc n) s t = refusal.Successor i unless reached map s ∷ leads n t t
 
   -- what the rules come to, where v is what follows them
   abbrev pub settled : Rules → Verdict → Verdict

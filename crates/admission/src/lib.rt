@@ -17,7 +17,7 @@ ghost use Rattle.rules.specs.Answers.{tested};
 ghost use Rattle.rules.specs.Bus.{images};
 ghost use Rattle.rules.specs.Admission.{marksIn, marked, ascends, inputFits, vectorsHold, ofRecords, ruleTests, admit};
 ghost use Rattle.table.specs.Numbers.{numberOf, fetched};
-ghost use Rattle.admission.specs.Rules.{markOf, goesTo, goesOn, one, unless, outside, stored, isAtZero, pulled, calls, rulesFor, asks, settled};
+ghost use Rattle.admission.specs.Rules.{markOf, goesTo, goesOn, one, rulesUnless, outside, stored, isAtZero, pulled, calls, rulesFor, reached, settled};
 ghost use Rattle.admission.specs.Maps.{formed, Formed, Ascending, Found, NeedAt};
 
 // "kind (1 main, 2 routine, 3 handler)"
@@ -166,9 +166,9 @@ fn need_at(map: &[u8], address: u16, kind: u8, height: u16) -> usize
     NONE
 }
 
-fn leads_to(map: &[u8], s: Successor) -> bool
+fn is_reached(map: &[u8], s: Successor) -> bool
     requires { ⌜ Ascending (now map) ⌝ }
-    ensures { λ r. ⌜ ((i : ℕ) → r ≡ asks (now (map .entry)) i s .holds) ⌝ }
+    ensures { λ r. ⌜ r ≡ reached (now (map .entry)) s ⌝ }
 {
     need_at(map, s.address, s.kind, s.height) + s.more as usize <= s.limit as usize
 }
@@ -219,8 +219,9 @@ fn one(s: Successor) -> Rules
     Rules::Leads(1, s, s)
 }
 
+// The rules r after a rule that holds or not.
 fn unless(holds: bool, e: Refusal, r: Rules) -> Rules
-    ensures { λ q. ⌜ q ≡ unless holds e r ⌝ }
+    ensures { λ q. ⌜ q ≡ rulesUnless holds e r ⌝ }
 {
     if holds { r } else { Rules::Broken(e) }
 }
@@ -387,7 +388,7 @@ fn judge(image: &[u8], c: u8, map: &[u8]) -> Verdict
                 let mut left = count;
                 let mut successor = first;
                 while left > 0 {
-                    if !leads_to(map, successor) {
+                    if !is_reached(map, successor) {
                         verdict = Verdict::Barred(Refusal::Successor(i as u16));
                         break 'records;
                     }
