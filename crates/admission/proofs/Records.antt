@@ -4,52 +4,79 @@ use native.Mathlib.Omega.{arith}
 use mathlib.Core.Path.{_≡_, sym, ap, _∙_}
 use mathlib.Core.Bool.{true, false}
 use mathlib.Core.List.{List, []}
-use borrow.Author.Tests.{le-leb, lt-leb}
+use borrow.Author.Tests.{le-leb, lt-leb, eq-eqb, ne-eqb, not-true, not-false}
+use lib.Dec.{eqb}
+use Rattle.rules.specs.declared.Instruction.{Instruction}
 use Rattle.rules.specs.declared.Refusal.the-variants.{Place}
 use Rattle.rules.specs.declared.Verdict.{Verdict}
 use Rattle.rules.specs.declared.Verdict.the-variants.{Barred}
-use Rattle.rules.specs.Basics.{at, address, sum16}
+use Rattle.rules.specs.Basics.{if_then_else_, at, address, sum16}
 use Rattle.rules.specs.Opcodes.{decode, sizeOf, isDefined}
 use Rattle.rules.specs.Answers.{Test, tested}
 use Rattle.rules.specs.Bus.{images}
-use Rattle.rules.specs.Admission.{markAt, next, rulesOf, ruleTests}
-use Rattle.table.specs.Numbers.{numberOf, made}
-use Rattle.table.proofs.Decodes.{made-of}
+use Rattle.rules.specs.Admission.{markAt, rulesOf, ruleTests}
+use Rattle.table.specs.Numbers.{numberOf, made, fetched}
+use Rattle.table.proofs.Decodes.{made-of, sized-is, defined-is}
+use Rattle.admission.specs.declared.Mark.{Mark}
 use Rattle.admission.specs.declared.Rules.{Rules}
 use Rattle.admission.specs.Rules.{markOf, rulesFor, settled}
 use Rattle.admission.proofs.Settled.{rules-are}
 
-module _ (m : List ℕ) (c : ℕ) (map : List ℕ) (i : ℕ) where
+module _ (m : List ℕ) (c : ℕ) (map : List ℕ) (i : ℕ) (k : Mark) (here : k ≡ markOf map i) (v : Verdict) where
   abbrev p : ℕ
   p = markAt map i .address
 
-  abbrev e : ℕ
-  e = at m p
+  abbrev opcode : ℕ
+  opcode = at m p
 
-  module _ (v : Verdict) where
-    pub unprotected : p / 256 < 256 - c → tested (ruleTests images m c map i) Barred v ≡ Barred (Place i)
-    unfolding ruleTests
-    unprotected h = rw (lt-leb (256 - c) (p / 256) h)
+  abbrev its : Verdict
+  its = tested (ruleTests images m c map i) Barred v
 
-    module _ (kept : 256 - c ≤ p / 256) where
-      pub too-long : 65536 < p + sizeOf (decode e) → tested (ruleTests images m c map i) Barred v ≡ Barred (Place i)
+  pub unprotected : k .address / 256 < 256 - c → its ≡ Barred (Place i)
+  unfolding ruleTests
+  unprotected h = rw (lt-leb (256 - c) (p / 256) (rw here at h))
+
+  module _
+      (kept : 256 - c ≤ k .address / 256) (e n : ℕ) (entry : (e ≡ numberOf (decode (at m (k .address)))) × (at m (k .address) < 256))
+      (size : n ≡ (if eqb e 240 then 3 else fetched e))
+    where
+      byte : opcode < 256
+      byte = rw here at (entry .1)
+
+      number : e ≡ numberOf (decode opcode)
+      number = rw here at (entry .0)
+
+      long : n ≡ sizeOf (decode opcode)
+      long = (rw number at size) ∙ sized-is opcode byte
+
+      pub too-long : 65536 < k .address + n → its ≡ Barred (Place i)
       unfolding ruleTests
-      too-long h = rw (le-leb (256 - c) (p / 256) kept, lt-leb (p + sizeOf (decode e)) 65536 h)
+      too-long h =
+          rw (le-leb (256 - c) (p / 256) (rw here at kept), lt-leb (p + sizeOf (decode opcode)) 65536 (rw (long, here) at h))
 
-      module _ (whole : p + sizeOf (decode e) ≤ 65536) where
-        pub not-defined : isDefined (decode e) ≡ false → tested (ruleTests images m c map i) Barred v ≡ Barred (Place i)
+      module _ (whole : k .address + n ≤ 65536) where
+        pub not-defined : e ≡ 255 → its ≡ Barred (Place i)
         unfolding ruleTests
-        not-defined h = rw (le-leb (256 - c) (p / 256) kept, le-leb (p + sizeOf (decode e)) 65536 whole, h)
+        not-defined h =
+            let d : isDefined (decode opcode) ≡ false = not-true _ (sym (defined-is opcode byte) ∙ eq-eqb _ 255 (sym number ∙ h)) in
+            rw (le-leb (256 - c) (p / 256) (rw here at kept), le-leb (p + sizeOf (decode opcode)) 65536 (rw (long, here) at whole), d)
 
-        pub its-own : isDefined (decode e) ≡ true → e < 256 → (r : Rules) →
-            r ≡ rulesFor (markOf map i) (next images m c map i) (address (at m (sum16 p 1)) (at m (sum16 p 2))) i (made (numberOf (decode e)) (at m (sum16 p 1)) (at m (sum16 p 2))) →
-            tested (ruleTests images m c map i) Barred v ≡ settled map i r v
+        -- the instruction with its two bytes low and high, and what the code makes of it
+        pub its-own : (e ≡ 255 → ⊥) → (low high next call : ℕ) (x : Instruction) (r : Rules) → low ≡ at m (sum16 (k .address) 1) →
+            high ≡ at m (sum16 (k .address) 2) → next ≡ sum16 (k .address) n → call ≡ address low high → x ≡ made e low high →
+            r ≡ rulesFor k next call i x → its ≡ settled map i r v
         unfolding ruleTests
-        its-own h b r q =
-            let low = at m (sum16 p 1) in
-            let high = at m (sum16 p 2) in
+        its-own h low high next call x r l g s j y q =
+            let d : isDefined (decode opcode) ≡ true = not-false _ (sym (defined-is opcode byte) ∙ ne-eqb _ 255 (λ z. h (number ∙ z))) in
+            let lo = at m (sum16 p 1) in
+            let hi = at m (sum16 p 2) in
+            let l′ : low ≡ lo = rw here at l in
+            let g′ : high ≡ hi = rw here at g in
+            let s′ : next ≡ sum16 p (sizeOf (decode opcode)) = rw (here, long) at s in
+            let j′ : call ≡ address lo hi = j ∙ (λ t. address (l′ t) (g′ t)) in
+            let y′ : x ≡ made (numberOf (decode opcode)) lo hi = y ∙ (λ t. made (number t) (l′ t) (g′ t)) in
             let two : sum16 (sum16 p 1) 1 ≡ sum16 p 2 = omega arith in
-            rw (le-leb (256 - c) (p / 256) kept, le-leb (p + sizeOf (decode e)) 65536 whole, h)
-            (ap (λ (l : List Test). tested l Barred v) (sym (made-of (rulesOf images m c map i) [] e low high b h))
-            ∙ (rw two at (rules-are map i m c (made (numberOf (decode e)) low high) v))
-            ∙ ap (λ (x : Rules). settled map i x v) (sym q))
+            rw (le-leb (256 - c) (p / 256) (rw here at kept), le-leb (p + sizeOf (decode opcode)) 65536 (rw (long, here) at whole), d)
+            (ap (λ (t : List Test). tested t Barred v) (sym (made-of (rulesOf images m c map i) [] opcode lo hi byte d))
+            ∙ (rw two at (rules-are map i m c (made (numberOf (decode opcode)) lo hi) v))
+            ∙ ap (λ (z : Rules). settled map i z v) (sym (q ∙ (λ t. rulesFor (here t) (s′ t) (j′ t) i (y′ t)))))

@@ -173,14 +173,18 @@ fn is_reached(map: &[u8], s: Successor) -> bool
     need_at(map, s.address, s.kind, s.height) + s.more as usize <= s.limit as usize
 }
 
+fn byte_after(image: &[u8], p: u16, k: u16) -> u8
+    requires { ⌜ length (now image) ≡ 65536 ⌝ }
+    ensures { λ r. ⌜ r ≡ at (now (image .entry)) (sum16 p k) ⌝ }
+{
+    image[std::num::wrapping_add_u16(p, k) as usize]
+}
+
 fn word_at(image: &[u8], p: u16) -> u16
     requires { ⌜ length (now image) ≡ 65536 ⌝ }
     ensures { λ r. ⌜ r ≡ address (at (now (image .entry)) p) (at (now (image .entry)) (sum16 p 1)) ⌝ }
 {
-    bytes::join(
-        image[p as usize],
-        image[std::num::wrapping_add_u16(p, 1) as usize],
-    )
+    bytes::join(image[p as usize], byte_after(image, p, 1))
 }
 
 // 12: "FFFC points to main, FFFE to handler, both height 0; their needs + 3 make at most 256"
@@ -358,8 +362,8 @@ fn rules_at(image: &[u8], c: u8, map: &[u8], i: usize) -> Rules
     if entry == table::UNDEFINED {
         return Rules::Broken(Refusal::Place(index));
     }
-    let low = image[std::num::wrapping_add_u16(a, 1) as usize];
-    let high = image[std::num::wrapping_add_u16(a, 2) as usize];
+    let low = byte_after(image, a, 1);
+    let high = byte_after(image, a, 2);
     rules_for(
         decode::instruction_of(entry, low, high),
         m,
