@@ -5,18 +5,25 @@ use Rattle.admission.proofs.rules_at.Statement.{statement}
 use Rattle.admission.proofs.rules_at.Tie as tie
 
 returns : tie.Need-returns
-returns c = λ v. unprotected (now (c .before .before .before .before .args .image)) (c .before .before .before .before .args .c) (now (c .before .before .before .before .args .map)) (c .before .before .before .before .args .i) _ (c .before .mark-at .ensures) v (c .if1 .taken)
+returns c =
+    let a = c .before .before .before .before .args in
+    λ v. unprotected (now (a .image)) (a .c) (now (a .map)) (a .i) _ (c .before .mark-at .ensures) v (c .if1 .taken)
 
 returns-2 : tie.Need-returns-2
-returns-2 c = λ v. too-long (now (c .before .before .before .before .before .before .before .args .image)) (c .before .before .before .before .before .before .before .args .c) (now (c .before .before .before .before .before .before .before .args .map)) (c .before .before .before .before .before .before .before .args .i) _ (c .before .before .before .before .mark-at .ensures) v (c .before .before .before .if1 .left) _ _ (c .before .before .entry-at .ensures) (c .before .size-of .ensures) (c .if2 .taken)
+returns-2 c =
+    let a = c .before .before .before .before .before .before .before .args in
+    λ v. too-long (now (a .image)) (a .c) (now (a .map)) (a .i) _ (c .before .before .before .before .mark-at .ensures) v (c .before .before .before .if1 .left) _ _ (c .before .before .entry-at .ensures) (c .before .size-of .ensures) (c .if2 .taken)
 
 returns-3 : tie.Need-returns-3
-returns-3 c = λ v. not-defined (now (c .before .before .before .before .before .before .before .before .args .image)) (c .before .before .before .before .before .before .before .before .args .c) (now (c .before .before .before .before .before .before .before .before .args .map)) (c .before .before .before .before .before .before .before .before .args .i) _ (c .before .before .before .before .before .mark-at .ensures) v (c .before .before .before .before .if1 .left) _ _ (c .before .before .before .entry-at .ensures) (c .before .before .size-of .ensures) (c .before .if2 .left) (c .if3 .taken)
+returns-3 c =
+    let a = c .before .before .before .before .before .before .before .before .args in
+    λ v. not-defined (now (a .image)) (a .c) (now (a .map)) (a .i) _ (c .before .before .before .before .before .mark-at .ensures) v (c .before .before .before .before .if1 .left) _ _ (c .before .before .before .entry-at .ensures) (c .before .before .size-of .ensures) (c .before .if2 .left) (c .if3 .taken)
 
 returns-4 : tie.Need-returns-4
 returns-4 c =
+    let a = c .before .before .before .before .before .before .before .before .before .before .before .before .before .before .args in
     λ v.
-    its-own (now (c .before .before .before .before .before .before .before .before .before .before .before .before .before .before .args .image)) (c .before .before .before .before .before .before .before .before .before .before .before .before .before .before .args .c) (now (c .before .before .before .before .before .before .before .before .before .before .before .before .before .before .args .map)) (c .before .before .before .before .before .before .before .before .before .before .before .before .before .before .args .i) _ (c .before .before .before .before .before .before .before .before .before .before .before .mark-at .ensures) v (c .before .before .before .before .before .before .before .before .before .before .if1 .left) _ _ (c .before .before .before .before .before .before .before .before .before .entry-at .ensures) (c .before .before .before .before .before .before .before .before .size-of .ensures) (c .before .before .before .before .before .before .before .if2 .left) (c .before .before .before .before .before .before .if3 .left) _ _ _ _ _ _
+    its-own (now (a .image)) (a .c) (now (a .map)) (a .i) _ (c .before .before .before .before .before .before .before .before .before .before .before .mark-at .ensures) v (c .before .before .before .before .before .before .before .before .before .before .if1 .left) _ _ (c .before .before .before .before .before .before .before .before .before .entry-at .ensures) (c .before .before .before .before .before .before .before .before .size-of .ensures) (c .before .before .before .before .before .before .before .if2 .left) (c .before .before .before .before .before .before .if3 .left) _ _ _ _ _ _
     (c .before .before .before .before .before .byte-after .ensures) (c .before .before .before .before .byte-after2 .ensures) (c .before .before .wrapping-add-u16 .ensures) (c .before .join .ensures) (c .before .before .before .instruction-of .ensures) (c .rules-for .ensures)
 
 pub rules-at-spec : {M : Type 1} → statement M
