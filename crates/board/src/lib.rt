@@ -3,12 +3,14 @@
 use rules::AppendAnswer;
 use rules::Numbers;
 use rules::RestartAnswer;
+use rules::Verdict;
 ghost use mathlib.Core.Path.{_≡_};
-ghost use Rattle.rules.specs.Answers.{stepWord, runWords, restartWord, appendWord};
+ghost use Rattle.rules.specs.Answers.{stepWord, runWords, restartWord, appendWord, verdictWord};
 ghost use Rattle.rules.specs.Bus.{images};
 ghost use Rattle.rules.specs.Step.{step};
 ghost use Rattle.rules.specs.Run.{runOf};
 ghost use Rattle.rules.specs.Restart.{restart, appendAt};
+ghost use Rattle.rules.specs.Admission.{admit};
 ghost use Rattle.step.specs.Parts.{left};
 ghost use Rattle.run.specs.Words.{worded};
 
@@ -79,5 +81,15 @@ pub extern "C" fn wankitare_append_at(file_len: u64) -> u64
             large: place,
         }),
         AppendAnswer::Full(e) => words::refusal_word(e),
+    }
+}
+
+#[no_mangle]
+pub extern "C" fn wankitare_admit(image: &[u8], c: u8, map: &[u8]) -> u64
+    ensures { λ r. ⌜ r ≡ verdictWord (admit images (now (image .entry)) c (now (map .entry))) ⌝ }
+{
+    match admission::admit(image, c, map) {
+        Verdict::Accepted => 0,
+        Verdict::Barred(e) => words::refusal_word(e),
     }
 }

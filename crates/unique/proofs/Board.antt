@@ -26,3 +26,6 @@ wankitare-restart κs a x y = answer refl
 
 pub wankitare-append-at : Unique its.wankitare_append_at.Kinds.ps its.wankitare_append_at.Kinds.r its.wankitare_append_at.Reads.Post
 wankitare-append-at κs a x y = answer refl
+
+pub wankitare-admit : Unique its.wankitare_admit.Kinds.ps its.wankitare_admit.Kinds.r its.wankitare_admit.Reads.Post
+wankitare-admit κs a x y = answer refl

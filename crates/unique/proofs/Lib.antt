@@ -1,4 +1,5 @@
 pub mod Addressing
+pub mod Admission
 pub mod Arithmetic
 pub mod Board
 pub mod Bus
