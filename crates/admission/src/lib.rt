@@ -16,6 +16,7 @@ ghost use Rattle.rules.specs.Opcodes.{decode};
 ghost use Rattle.rules.specs.Answers.{tested};
 ghost use Rattle.rules.specs.Bus.{images};
 ghost use Rattle.rules.specs.Admission.{marksIn, marked, ascends, inputFits, vectorsHold, ofRecords, ruleTests, admit};
+ghost use Rattle.rules.specs.Safety.{Safe, PlaysOut};
 ghost use Rattle.table.specs.Numbers.{numberOf, fetched};
 ghost use Rattle.admission.specs.Rules.{markOf, goesTo, goesOn, one, rulesUnless, outside, stored, isAtZero, pulled, calls, rulesFor, reached, settled};
 ghost use Rattle.admission.specs.Maps.{formed, Formed, Ascending, Found, NeedAt};
@@ -430,8 +431,8 @@ fn input_fits(image: &[u8], c: u8, map: &[u8]) -> bool
 }
 
 // "Admission: 10; 11, first record; 12; then the lowest record, and at it the lowest number."
-pub fn admit(image: &[u8], c: u8, map: &[u8]) -> Verdict
-    ensures exact { λ r. ⌜ r ≡ admit images (now (image .entry)) c (now (map .entry)) ⌝ }
+fn verdict(image: &[u8], c: u8, map: &[u8]) -> Verdict
+    ensures { λ r. ⌜ r ≡ admit images (now (image .entry)) c (now (map .entry)) ⌝ }
 {
     if !input_fits(image, c, map) {
         return Verdict::Barred(Refusal::Admission);
@@ -444,4 +445,13 @@ pub fn admit(image: &[u8], c: u8, map: &[u8]) -> Verdict
         return Verdict::Barred(Refusal::Vectors);
     }
     judge(image, c, map)
+}
+
+// Demand 3: it "accepts exactly by the map's rules", and what it accepts is safe on every sequence of steps and in every run.
+pub fn admit(image: &[u8], c: u8, map: &[u8]) -> Verdict
+    ensures exact { λ r. ⌜ r ≡ admit images (now (image .entry)) c (now (map .entry)) ⌝ }
+    ensures safe { λ r. ⌜ (r ≡ Verdict.Accepted → Safe (now (image .entry)) c (now (map .entry))) ⌝ }
+    ensures plays { λ r. ⌜ (r ≡ Verdict.Accepted → PlaysOut (now (image .entry)) c (now (map .entry))) ⌝ }
+{
+    verdict(image, c, map)
 }

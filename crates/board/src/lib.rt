@@ -11,6 +11,7 @@ ghost use Rattle.rules.specs.Step.{step};
 ghost use Rattle.rules.specs.Run.{runOf};
 ghost use Rattle.rules.specs.Restart.{restart, appendAt};
 ghost use Rattle.rules.specs.Admission.{admit};
+ghost use Rattle.rules.specs.Safety.{Safe, PlaysOut};
 ghost use Rattle.step.specs.Parts.{left};
 ghost use Rattle.run.specs.Words.{worded};
 
@@ -84,9 +85,12 @@ pub extern "C" fn wankitare_append_at(file_len: u64) -> u64
     }
 }
 
+// Demand 3: 0 promises that the image is safe.
 #[no_mangle]
 pub extern "C" fn wankitare_admit(image: &[u8], c: u8, map: &[u8]) -> u64
-    ensures { λ r. ⌜ r ≡ verdictWord (admit images (now (image .entry)) c (now (map .entry))) ⌝ }
+    ensures exact { λ r. ⌜ r ≡ verdictWord (admit images (now (image .entry)) c (now (map .entry))) ⌝ }
+    ensures safe { λ r. ⌜ (r ≡ 0 → Safe (now (image .entry)) c (now (map .entry))) ⌝ }
+    ensures plays { λ r. ⌜ (r ≡ 0 → PlaysOut (now (image .entry)) c (now (map .entry))) ⌝ }
 {
     match admission::admit(image, c, map) {
         Verdict::Accepted => 0,

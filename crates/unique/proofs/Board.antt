@@ -28,4 +28,4 @@ pub wankitare-append-at : Unique its.wankitare_append_at.Kinds.ps its.wankitare_
 wankitare-append-at κs a x y = answer refl
 
 pub wankitare-admit : Unique its.wankitare_admit.Kinds.ps its.wankitare_admit.Kinds.r its.wankitare_admit.Reads.Post
-wankitare-admit κs a x y = answer refl
+wankitare-admit κs a x y p q = answer refl (p .0) (q .0)
