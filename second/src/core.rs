@@ -1,6 +1,7 @@
 //! One step: the refusals in their order, the interrupts, and what instructions are made of.
 
 use crate::bus::{Bus, ACCESS, BANK, MOST_ACCESSES};
+use crate::opcodes::decode;
 use crate::record::{Part, Record, C, D, I, N, V, Z};
 
 pub const RES: u8 = 1;
@@ -37,8 +38,9 @@ pub fn step(record: &mut [u8], image: &mut [u8], lines: u8, pins: u8, accesses: 
     } else {
         // Only the fetch has happened where the opcode is undefined, and it is listed in the bus alone.
         let opcode = core.fetch();
-        if !core.execute(opcode) {
-            return 6 | u64::from(opcode) << 8 | u64::from(before.pc) << 16;
+        match decode(opcode) {
+            Some(instruction) => core.execute(instruction),
+            None => return 6 | u64::from(opcode) << 8 | u64::from(before.pc) << 16,
         }
     }
 

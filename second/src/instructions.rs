@@ -1,6 +1,7 @@
 //! What the opcodes do: the bus cycles after the fetch, in the order of time.
 
 use crate::core::{Core, IRQ_VECTOR};
+use crate::opcodes::{Instruction, Register};
 use crate::record::{BIT_4, BIT_5, C, N, V, Z};
 
 #[derive(Clone, Copy)]
@@ -40,7 +41,31 @@ fn indexed(base: u16, index: u8) -> Place {
     }
 }
 
-impl Core<'_> {
+impl<'a> Core<'a> {
+    pub fn execute(&mut self, instruction: Instruction<'a>) {
+        match instruction {
+            Instruction::Read(operation, mode) => operation(self, mode),
+            Instruction::Store(register, mode) => self.store(register, mode),
+            Instruction::Change(change, mode) => self.change(mode, change),
+            Instruction::ChangeA(change) => self.change_a(change),
+            Instruction::Branch(flag, value) => self.branch(self.has(flag) == value),
+            Instruction::Jmp => self.jmp(),
+            Instruction::JmpIndirect => self.jmp_indirect(),
+            Instruction::Jsr => self.jsr(),
+            Instruction::Rts => self.rts(),
+            Instruction::Rti => self.rti(),
+            Instruction::Brk => self.brk(),
+            Instruction::Nop => self.implied(),
+            Instruction::Php => self.php(),
+            Instruction::Plp => self.plp(),
+            Instruction::Pha => self.pha(),
+            Instruction::Pla => self.pla(),
+            Instruction::Flag(flag, on) => self.flag(flag, on),
+            Instruction::Inside(operation) => operation(self),
+            Instruction::Txs => self.txs(),
+        }
+    }
+
     fn place(&mut self, mode: Mode) -> Place {
         match mode {
             Immediate => {
@@ -110,12 +135,17 @@ impl Core<'_> {
         place.data
     }
 
-    pub fn store(&mut self, mode: Mode, value: u8) {
+    fn store(&mut self, register: Register, mode: Mode) {
+        let value = match register {
+            Register::A => self.a,
+            Register::X => self.x,
+            Register::Y => self.y,
+        };
         let address = self.target(mode);
         self.write(address, value);
     }
 
-    pub fn change(&mut self, mode: Mode, change: fn(&mut Self, u8) -> u8) {
+    fn change(&mut self, mode: Mode, change: fn(&mut Self, u8) -> u8) {
         let address = self.target(mode);
         let value = self.read(address);
         self.write(address, value);
@@ -123,13 +153,13 @@ impl Core<'_> {
         self.write(address, result);
     }
 
-    pub fn change_a(&mut self, change: fn(&mut Self, u8) -> u8) {
+    fn change_a(&mut self, change: fn(&mut Self, u8) -> u8) {
         self.implied();
         let value = self.a;
         self.a = change(self, value);
     }
 
-    pub fn implied(&mut self) {
+    fn implied(&mut self) {
         self.read(self.pc);
     }
 
@@ -173,7 +203,19 @@ impl Core<'_> {
         self.subtract(value);
     }
 
-    pub fn compare(&mut self, register: u8, mode: Mode) {
+    pub fn cmp(&mut self, mode: Mode) {
+        self.compare(self.a, mode);
+    }
+
+    pub fn cpx(&mut self, mode: Mode) {
+        self.compare(self.x, mode);
+    }
+
+    pub fn cpy(&mut self, mode: Mode) {
+        self.compare(self.y, mode);
+    }
+
+    fn compare(&mut self, register: u8, mode: Mode) {
         let value = self.load(mode);
         self.set_nz(register.wrapping_sub(value));
         self.set(C, register >= value);
@@ -219,7 +261,7 @@ impl Core<'_> {
     }
 
     /// A crossing is judged from the next instruction's address, not from the branch's own.
-    pub fn branch(&mut self, taken: bool) {
+    fn branch(&mut self, taken: bool) {
         let offset = self.fetch() as i8;
         if taken {
             self.read(self.pc);
@@ -231,18 +273,18 @@ impl Core<'_> {
         }
     }
 
-    pub fn jmp(&mut self) {
+    fn jmp(&mut self) {
         self.pc = self.fetch_word();
     }
 
     /// The high byte comes from the next location, in the next page after a pointer at a page's end.
-    pub fn jmp_indirect(&mut self) {
+    fn jmp_indirect(&mut self) {
         let pointer = self.fetch_word();
         self.pc = self.read_word(pointer);
     }
 
     /// The pushes come before the high operand is read, and may have changed it.
-    pub fn jsr(&mut self) {
+    fn jsr(&mut self) {
         let low = self.fetch();
         self.read_stack();
         self.push_pc();
@@ -250,51 +292,51 @@ impl Core<'_> {
         self.pc = u16::from_le_bytes([low, high]);
     }
 
-    pub fn rts(&mut self) {
+    fn rts(&mut self) {
         self.implied();
         self.read_stack();
         self.pc = self.pull_word();
         self.fetch();
     }
 
-    pub fn rti(&mut self) {
+    fn rti(&mut self) {
         self.implied();
         self.read_stack();
         self.p = self.pull() & !BIT_4 | BIT_5;
         self.pc = self.pull_word();
     }
 
-    pub fn brk(&mut self) {
+    fn brk(&mut self) {
         self.fetch();
         self.push_pc();
         self.push(self.p | BIT_4);
         self.enter(IRQ_VECTOR);
     }
 
-    pub fn php(&mut self) {
+    fn php(&mut self) {
         self.implied();
         self.push(self.p | BIT_4 | BIT_5);
     }
 
-    pub fn plp(&mut self) {
+    fn plp(&mut self) {
         self.implied();
         self.read_stack();
         self.p = self.pull() & !BIT_4 | BIT_5;
     }
 
-    pub fn pha(&mut self) {
+    fn pha(&mut self) {
         self.implied();
         self.push(self.a);
     }
 
-    pub fn pla(&mut self) {
+    fn pla(&mut self) {
         self.implied();
         self.read_stack();
         self.a = self.pull();
         self.set_nz(self.a);
     }
 
-    pub fn flag(&mut self, flag: u8, on: bool) {
+    fn flag(&mut self, flag: u8, on: bool) {
         self.implied();
         self.set(flag, on);
     }
@@ -317,7 +359,7 @@ impl Core<'_> {
         self.set_nz(value);
     }
 
-    pub fn txs(&mut self) {
+    fn txs(&mut self) {
         self.implied();
         self.s = self.x;
     }
