@@ -1,5 +1,6 @@
 /*
- * Wankitare: a 6502, 6508 or 6509, one step or a run of steps at a time, and the file that it restarts from.
+ * Wankitare: a 6502, 6508 or 6509, one step or a run of steps at a time, the file that it restarts from, and the
+ * admission of 6502 images.
  *
  * The board lends all memory: a state record of 16 bytes, the memory image and room for a list of bus accesses. The
  * library keeps nothing between calls and allocates nothing, so calls on different buffers may be made on different
@@ -25,7 +26,7 @@ extern "C" {
 /*
  * Refusals. A step tests 1 to 6 in this order and the first that applies is given; a refused step has changed no byte
  * of any buffer. A run tests 1, 2, 3 and 7 before anything, then 4 to 6 in each step. Of a restart file 8 is tested,
- * then 2.
+ * then 2. Admission tests 10, then 11 at each record, then 12, then 13 to 16 at each record.
  */
 enum {
     /* record_len is not 16. */
@@ -54,7 +55,34 @@ enum {
 
     /* The restart file is under 16 or over 65,536 bytes, so that it holds no record to restart from; or an append would
        take it past 65,536. */
-    WANKITARE_FILE_LENGTH = 8
+    WANKITARE_FILE_LENGTH = 8,
+
+    /* Admission: image_len is not 65,536, c is 0 or 255, or map_len is 0, over 65,536 or no multiple of 8. */
+    WANKITARE_ADMISSION_INPUT = 10,
+
+    /* The map record at wankitare_index has no kind from 1 to 3 or no three zeros at its end, or its address is not
+       above that of the record before it. */
+    WANKITARE_MAP_RECORD = 11,
+
+    /* FFFC does not point to a main record of height 0, or FFFE not to a handler's; or their needs and the three bytes
+       of an interrupt do not fit into the stack's 256. */
+    WANKITARE_VECTORS_OR_ROOM = 12,
+
+    /* The instruction at wankitare_index does not lie whole in protected pages; or its opcode is none of the 151, or
+       BRK, PLP, JMP (a), 81 or 91. */
+    WANKITARE_PLACE_OR_OPCODE = 13,
+
+    /* It is a store, shift, INC or DEC that could reach the stack page: its absolute address is 0100 to 01FF, or its
+       a,X or a,Y base 0001 to 01FF. */
+    WANKITARE_STORE_ADDRESS = 14,
+
+    /* TXS outside main or not at height 0; CLI outside main; RTS not in a routine at height 0; RTI not in a handler at
+       height 0; PLA at height 0. */
+    WANKITARE_KIND_OR_HEIGHT = 15,
+
+    /* An instruction that it leads to has no record, or one of another kind, a height that does not follow, or more
+       need than it leaves; or a JSR calls what is no routine of height 0, or one that needs too much. */
+    WANKITARE_SUCCESSOR = 16
 };
 
 /* Lengths in bytes. */
@@ -63,7 +91,9 @@ enum {
     WANKITARE_BANK_BYTES = 65536,
     WANKITARE_ACCESS_BYTES = 8,
     WANKITARE_STEP_ROOM = 56,
-    WANKITARE_MOST_FILE_BYTES = 65536
+    WANKITARE_MOST_FILE_BYTES = 65536,
+    WANKITARE_MAP_RECORD_BYTES = 8,
+    WANKITARE_MOST_MAP_BYTES = 65536
 };
 
 /* The input lines, 1 meaning asserted. RES goes before NMI, and NMI before IRQ. */
@@ -101,7 +131,8 @@ enum {
  * Answers a word, as every call does: take it apart by the functions below. Its bits:
  *     0..7    the refusal's number, 0 where there is none
  *     8..15   step done: the number of its accesses; refusal 6: the opcode; record found: the tail's length
- *     16..31  refusal 6: PC; record found, place for the next one: that place, up to bit 47
+ *     16..31  refusal 6: PC; 11, 13 to 16: the map record's index; record found, place for the next one: that place,
+ *             up to bit 47
  *     others  0
  */
 uint64_t wankitare_step(uint8_t *record, size_t record_len, uint8_t *image, size_t image_len,
@@ -165,6 +196,30 @@ uint64_t wankitare_restart(const uint8_t *file, size_t file_len);
  */
 uint64_t wankitare_append_at(uint64_t file_len);
 
+/*
+ * Admits a 6502 image, or says what its map breaks. docs/ADMISSION.md shows how a map is made.
+ *
+ * image     The memory with the firmware in it: 65,536 bytes.
+ * c         How many pages at the top are write-protected, 1 to 254: byte 11 of the record that it will run with.
+ * map       One record of 8 bytes for each instruction, at most 8,192 of them, by ascending address:
+ *               0, 1    address low, high
+ *               2       kind: 1 main, 2 routine, 3 handler
+ *               3       height: how many bytes it finds on the stack, of those pushed since main began, the routine was
+ *                       called or the handler was entered
+ *               4       need: how many more bytes may yet be pushed from there on
+ *               5..7    0
+ *
+ * Both are only read, and may overlap; none needs any alignment, and an empty one may have any pointer.
+ *
+ * Answers 0 where every rule holds. Otherwise 10; or 11 for the first record that is malformed or out of order; or 12;
+ * or one of 13 to 16: the lowest record at which a rule is broken, and at it the lowest number.
+ *
+ * An admitted image, from a reset on, never makes wankitare_step refuse, runs only instructions of its map, writes the
+ * stack page only by pushes and keeps 0 to 256 bytes on the stack: for a 6502 whose record has this c, under any resets
+ * and interrupt requests, as long as NMI stays released and nobody else writes the stack page or the protected ones.
+ */
+uint64_t wankitare_admit(const uint8_t *image, size_t image_len, uint8_t c, const uint8_t *map, size_t map_len);
+
 /* The refusal's number, or 0 where there was none. */
 static inline unsigned wankitare_refusal(uint64_t word)
 {
@@ -187,6 +242,12 @@ static inline uint8_t wankitare_opcode(uint64_t word)
 static inline uint16_t wankitare_pc(uint64_t word)
 {
     return (uint16_t)(word >> 16 & 0xFFFF);
+}
+
+/* WANKITARE_MAP_RECORD, and WANKITARE_PLACE_OR_OPCODE to WANKITARE_SUCCESSOR: which record of the map it is, from 0. */
+static inline unsigned wankitare_index(uint64_t word)
+{
+    return (unsigned)(word >> 16 & 0xFFFF);
 }
 
 /* Record found: how many bytes of the file follow it, 0 to 15. They are no record, and the next append drops them. */

@@ -1,6 +1,6 @@
-/* Runs examples.txt, given as standard input, as steps and as runs of one step, then some runs, restart files and
-   appends, on the archive that this is linked with, through the board's header. It shows that an x86-64 archive links
-   and answers wherever x86-64 programs run, and needs no headers of a C library. */
+/* Runs examples.txt, given as standard input, as steps and as runs of one step, then some runs, restart files, appends
+   and admissions, on the archive that this is linked with, through the board's header. It shows that an x86-64 archive
+   links and answers wherever x86-64 programs run, and needs no headers of a C library. */
 
 #include "wankitare.h"
 
@@ -221,6 +221,30 @@ static void check_append(void)
     check("append, no length", wankitare_append_at(UINT64_MAX) == WANKITARE_FILE_LENGTH);
 }
 
+/* Document 01's example. */
+static void check_admit(void)
+{
+    static const uint8_t program[] = {0xA2, 0xFF, 0x9A, 0x58, 0x4C, 0x04, 0xFF, 0x40};
+    static const uint8_t vectors[] = {0x00, 0xFF, 0x07, 0xFF};
+    static uint8_t map[][WANKITARE_MAP_RECORD_BYTES] = {
+        {0x00, 0xFF, 1}, {0x02, 0xFF, 1}, {0x03, 0xFF, 1}, {0x04, 0xFF, 1}, {0x07, 0xFF, 3}};
+    uint8_t *image = given.image;
+
+    memset(image, 0, WANKITARE_BANK_BYTES);
+    memcpy(image + 0xFF00, program, sizeof program);
+    memcpy(image + 0xFFFC, vectors, sizeof vectors);
+    check("admit, the example", wankitare_admit(image, WANKITARE_BANK_BYTES, 1, map[0], sizeof map) == 0);
+    check("admit, no protected page",
+          wankitare_admit(image, WANKITARE_BANK_BYTES, 0, map[0], sizeof map) == WANKITARE_ADMISSION_INPUT);
+    image[0xFF07] = 0x60;
+    word = wankitare_admit(image, WANKITARE_BANK_BYTES, 1, map[0], sizeof map);
+    check("admit, 60 at FF07", wankitare_refusal(word) == WANKITARE_KIND_OR_HEIGHT && wankitare_index(word) == 4 &&
+                                   word == (4 << 16 | 15));
+    map[4][7] = 1;
+    word = wankitare_admit(image, WANKITARE_BANK_BYTES, 1, map[0], sizeof map);
+    check("admit, malformed record", word == (4 << 16 | WANKITARE_MAP_RECORD));
+}
+
 int main(void)
 {
     while (read_line()) {
@@ -257,6 +281,7 @@ int main(void)
     check_runs();
     check_restart();
     check_append();
+    check_admit();
     printf("%u examples and %u cases through the header: %u failed\n", run, checked - run, failed);
     return run == 0 || failed != 0;
 }
