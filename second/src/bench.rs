@@ -1,9 +1,14 @@
-//! Nanoseconds per step, step by step and in runs, each core on the same program, in turns within one process.
+//! Nanoseconds per step, step by step and in runs, each core on the same program, in turns within one process; and per
+//! record of an admitted map.
 
 use crate::bus::{ACCESS, BANK, MOST_ACCESSES};
 use crate::core::step;
 use crate::cores::{self, Noise, Tested};
+#[cfg(not(yardstick_only))]
+use crate::firmware::{Draw, Shape};
 use crate::program::{PROGRAM, START};
+#[cfg(not(yardstick_only))]
+use crate::random::Random;
 use crate::run::{run, Ran};
 use std::time::{Duration, Instant};
 
@@ -168,7 +173,36 @@ pub fn bench() -> bool {
     }
     print_table("ns per step", &steps);
     print_table("ns per instruction in runs", &runs);
+    #[cfg(not(yardstick_only))]
+    print_admissions();
     true
+}
+
+/// All rules are asked of each record where a map is admitted.
+#[cfg(not(yardstick_only))]
+fn print_admissions() {
+    println!("{:<28}{:>12}", "ns per map record", "archive");
+    let mut draw = Draw::new(Random::new(1));
+    for records in [100, 1_000, 8_192] {
+        let firmware = draw.firmware(Shape {
+            routines: records / 50,
+            length: 40,
+            records,
+            ..Shape::default()
+        });
+        let map = firmware.map();
+        let mut least = f64::INFINITY;
+        for _ in 0..ROUNDS {
+            let (start, mut calls) = (Instant::now(), 0);
+            while start.elapsed() < TURN {
+                let word = cores::admit(&firmware.image, firmware.c, &map, 0);
+                assert_eq!(word, 0, "a map that keeps the rules is refused");
+                calls += 1;
+            }
+            least = least.min(start.elapsed().as_nanos() as f64 / (calls * records) as f64);
+        }
+        println!("{:<28}{:>12.2}", format!("{} records", records), least);
+    }
 }
 
 fn print_table(title: &str, lines: &[Line]) {

@@ -9,7 +9,7 @@ pub const NMI: u8 = 2;
 pub const IRQ: u8 = 4;
 
 const NMI_VECTOR: u16 = 0xFFFA;
-const RES_VECTOR: u16 = 0xFFFC;
+pub const RES_VECTOR: u16 = 0xFFFC;
 pub const IRQ_VECTOR: u16 = 0xFFFE;
 
 /// Answers the board's word. A refused step has changed no byte.

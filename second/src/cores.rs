@@ -58,11 +58,18 @@ entries! {
     per_part_step per_part_run,
 }
 
-// The yardsticks have no restart file.
+// The yardsticks have no restart file and no admission.
 #[cfg(not(yardstick_only))]
 extern "C" {
     fn wankitare_restart(file: *const u8, file_len: usize) -> u64;
     fn wankitare_append_at(file_len: u64) -> u64;
+    fn wankitare_admit(
+        image: *const u8,
+        image_len: usize,
+        c: u8,
+        map: *const u8,
+        map_len: usize,
+    ) -> u64;
 }
 
 #[derive(Clone, Copy)]
@@ -213,4 +220,10 @@ pub fn restart(file: &[u8], empty: usize) -> u64 {
 pub fn append_at(file_len: u64) -> u64 {
     // SAFETY: it takes and answers numbers.
     unsafe { wankitare_append_at(file_len) }
+}
+
+#[cfg(not(yardstick_only))]
+pub fn admit(image: &[u8], c: u8, map: &[u8], empty: usize) -> u64 {
+    // SAFETY: as above.
+    unsafe { wankitare_admit(at(image, empty), image.len(), c, at(map, empty), map.len()) }
 }

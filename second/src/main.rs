@@ -1,5 +1,8 @@
 //! The second program: document 01's rules once more, and what holds a core to them.
 
+mod admission;
+#[cfg(not(yardstick_only))]
+mod admissions;
 mod arithmetic;
 mod bench;
 mod bus;
@@ -9,9 +12,11 @@ mod core;
 mod cores;
 mod coverage;
 mod examples;
+mod firmware;
 mod instructions;
 mod opcodes;
 mod program;
+mod promise;
 mod random;
 mod record;
 mod report;
@@ -29,16 +34,20 @@ const USAGE: &str = "usage:
   second compare --steps N [--seed S] [--core CORE]
   second runs --runs N [--seed S] [--core CORE]
   second restart [--seed S]
+  second admission --maps N [--seed S]
+  second promise --steps N [--seed S] [--core CORE]
   second arithmetic [--core CORE]
   second examples [--core CORE]
   second bench
 
-CORE is archive, yardstick or per-part. Without it, compare, runs and arithmetic take the archive, or the yardstick
-where the program was built without one, and examples takes every core. Only the archive has restart.";
+CORE is archive, yardstick or per-part. Without it, compare, runs, promise and arithmetic take the archive, or the
+yardstick where the program was built without one, and examples takes every core. Only the archive has restart and
+admission.";
 
 struct Options {
     steps: Option<u64>,
     runs: Option<u64>,
+    maps: Option<u64>,
     seed: Option<u64>,
     core: Option<cores::Tested>,
 }
@@ -52,17 +61,21 @@ fn main() {
     let options = read_options(rest);
     let core = options.core.unwrap_or(cores::all()[0]);
     let seed = options.seed.unwrap_or_else(seed_from_time);
-    let passed = match (command.as_str(), options.steps, options.runs) {
-        ("compare", Some(steps), None) => compare::compare(core, steps, seed),
-        ("runs", None, Some(runs)) => runs::runs(core, runs, seed),
+    let counts = (options.steps, options.runs, options.maps);
+    let passed = match (command.as_str(), counts) {
+        ("compare", (Some(steps), None, None)) => compare::compare(core, steps, seed),
+        ("runs", (None, Some(runs), None)) => runs::runs(core, runs, seed),
         #[cfg(not(yardstick_only))]
-        ("restart", None, None) => restarts::restarts(seed),
-        ("arithmetic", None, None) => arithmetic::arithmetic(core),
-        ("examples", None, None) => match options.core {
+        ("restart", (None, None, None)) => restarts::restarts(seed),
+        #[cfg(not(yardstick_only))]
+        ("admission", (None, None, Some(maps))) => admissions::admissions(maps, seed),
+        ("promise", (Some(steps), None, None)) => promise::promise(core, steps, seed),
+        ("arithmetic", (None, None, None)) => arithmetic::arithmetic(core),
+        ("examples", (None, None, None)) => match options.core {
             Some(core) => examples::examples(&[core]),
             None => examples::examples(cores::all()),
         },
-        ("bench", None, None) => bench::bench(),
+        ("bench", (None, None, None)) => bench::bench(),
         _ => fail(USAGE),
     };
     if !passed {
@@ -74,6 +87,7 @@ fn read_options(arguments: &[String]) -> Options {
     let mut options = Options {
         steps: None,
         runs: None,
+        maps: None,
         seed: None,
         core: None,
     };
@@ -85,6 +99,7 @@ fn read_options(arguments: &[String]) -> Options {
         match name {
             "--steps" => options.steps = Some(number(value)),
             "--runs" => options.runs = Some(number(value)),
+            "--maps" => options.maps = Some(number(value)),
             "--seed" => options.seed = Some(number(value)),
             "--core" => match cores::named(value) {
                 Some(core) => options.core = Some(core),

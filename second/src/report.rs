@@ -93,6 +93,18 @@ impl Report {
         println!();
     }
 
+    /// Of the opcodes that are so, how many were seen.
+    pub fn opcodes_of(&mut self, text: &str, is_so: impl Fn(&u8) -> bool, counts: &[u64; 256]) {
+        let opcodes: Vec<u8> = (0..=255).filter(is_so).collect();
+        let count = |opcode: &&u8| counts[usize::from(**opcode)];
+        let unseen: Vec<&u8> = opcodes.iter().filter(|one| count(one) == 0).collect();
+        let text = format!("opcodes {}, of {}", text, opcodes.len());
+        println!("{:<34}{:>12}", text, opcodes.len() - unseen.len());
+        for opcode in unseen {
+            self.missing.push(format!("opcode {:02X} {}", opcode, text));
+        }
+    }
+
     /// The head of what is counted by part.
     pub fn parts(&self) {
         print!("{:<34}", "");

@@ -45,6 +45,14 @@ impl Example {
         }
     }
 
+    fn goes_on(&self, name: &str) -> Example {
+        Example {
+            name: name.to_string(),
+            answer: None,
+            ..self.clone()
+        }
+    }
+
     fn holds(&self) -> bool {
         let map: Vec<u8> = self.marks.iter().flat_map(|mark| mark.write()).collect();
         let mine = admit(&self.image, self.c, &map);
@@ -101,20 +109,21 @@ fn read_text(text: &str) -> Vec<Example> {
     let mut examples: Vec<Example> = Vec::new();
     let is_said = |line: &&str| !line.is_empty() && !line.starts_with('#');
     for line in text.lines().filter(is_said) {
-        match (line.split_once(' '), examples.last_mut()) {
+        match (line.split_once(' '), examples.last()) {
             (Some(("=", name)), _) => examples.push(Example::new(name)),
             (Some(("+", name)), Some(before)) => {
-                let name = name.to_string();
-                let answer = None;
-                let next = Example {
-                    name,
-                    answer,
-                    ..before.clone()
-                };
+                let next = before.goes_on(name);
                 examples.push(next);
             }
-            (_, Some(example)) => example.read(line),
-            _ => panic!("an example begins with its name: {}", line),
+            (Some(("?", name)), _) => {
+                let admitted = examples.iter().rev().find(|one| one.answer == Some(0));
+                let next = admitted.expect("one that was admitted").goes_on(name);
+                examples.push(next);
+            }
+            _ => match examples.last_mut() {
+                Some(example) => example.read(line),
+                None => panic!("an example begins with its name: {}", line),
+            },
         }
     }
     examples
