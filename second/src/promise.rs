@@ -18,8 +18,10 @@ use seen::Seen;
 /// Of each firmware.
 const MOST_STEPS: u64 = 4000;
 const RUN: usize = 400;
-/// Tries to alter a firmware's code, times the length of its map.
-const MOST_STRAY: usize = 40_000;
+/// Tries to alter a firmware, times the records of its map.
+const MOST_STRAY: usize = 5_000;
+/// TXS, CLI, SEI, PHA, PHP, PLA, PLP, RTS, RTI, BRK: those that have a rule of their own, and SEI.
+const OF_ONE_BYTE: [u8; 10] = [0x9A, 0x58, 0x78, 0x48, 0x08, 0x68, 0x28, 0x60, 0x40, 0x00];
 
 struct Promise {
     core: Tested,
@@ -114,21 +116,27 @@ impl Promise {
         firmware
     }
 
-    /// Other bytes in the code, as long as it is still admitted: what nobody had in mind.
+    /// Other bytes in code and map, as long as it is still admitted: what nobody had in mind.
     fn stray(&mut self, firmware: &mut Firmware) {
         let random = &mut self.draw.random;
-        let map = firmware.map();
-        for _ in 0..MOST_STRAY / map.len() {
-            let mark = random.pick(&firmware.marks);
-            let at = usize::from(mark.address) + random.below(3);
-            let value = random.edge_or_byte();
-            if let Some(was) = firmware.image.get(at).copied() {
-                firmware.image[at] = value;
-                let is_kept = admit(&firmware.image, firmware.c, &map) == 0;
-                self.seen.strays += u64::from(is_kept && value != was);
-                if !is_kept {
-                    firmware.image[at] = was;
+        for _ in 0..MOST_STRAY / firmware.marks.len() {
+            let mut altered = firmware.clone();
+            let index = random.below(altered.marks.len());
+            let mark = &mut altered.marks[index];
+            let address = mark.address;
+            match random.below(8) {
+                0 => mark.height = mark.height.wrapping_add(random.pick(&[1, 255])),
+                1 => mark.need = mark.need.wrapping_add(random.pick(&[1, 255])),
+                2 => altered.c = altered.c.wrapping_sub(1),
+                3..=5 => altered.put(address, &[random.pick(&OF_ONE_BYTE)]),
+                _ => {
+                    let at = address.saturating_add(random.pick(&[0, 1, 2]));
+                    altered.put(at, &[random.edge_or_byte()]);
                 }
+            }
+            if admit(&altered.image, altered.c, &altered.map()) == 0 {
+                self.seen.strays += 1;
+                *firmware = altered;
             }
         }
     }

@@ -185,7 +185,7 @@ impl Seen {
         report.row("with instructions in operands", self.overlapped);
         report.row("runs to the end of their script", self.runs);
         report.row("bytes that neighbours wrote", self.neighbours);
-        report.row("bytes of code altered and admitted", self.strays);
+        report.row("alterations that were admitted", self.strays);
         report.rows("", &KINDS, &self.kinds);
         report.row("firmwares that filled the stack", self.full);
         report.row("greatest bytes on the stack", self.greatest as u64);
