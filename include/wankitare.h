@@ -209,7 +209,7 @@ uint64_t wankitare_append_at(uint64_t file_len);
  *               4       need: how many more bytes may yet be pushed from there on
  *               5..7    0
  *
- * Both are only read, and may overlap; none needs any alignment, and an empty one may have any pointer.
+ * Both are only read, and may overlap; neither needs any alignment, and an empty one may have any pointer.
  *
  * Answers 0 where every rule holds. Otherwise 10; or 11 for the first record that is malformed or out of order; or 12;
  * or one of 13 to 16: the lowest record at which a rule is broken, and at it the lowest number.

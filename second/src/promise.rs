@@ -156,16 +156,17 @@ impl Promise {
             .core
             .run(noise, &mut record, &mut image, &script, &mut accesses);
         let mut stepped = Vec::with_capacity(accesses.len());
-        let is_kept = script.chunks(2).all(|inputs| match player.step(inputs[0]) {
-            Ok(done) => {
-                stepped.extend(done.list);
-                true
+        for inputs in script.chunks(2) {
+            match player.step(inputs[0]) {
+                Ok(done) => stepped.extend(done.list),
+                Err(clause) => {
+                    println!("broken in a run: {:?}", clause);
+                    return false;
+                }
             }
-            Err(_) => false,
-        });
+        }
         self.seen.runs += 1;
-        is_kept
-            && ran.word == 0
+        ran.word == 0
             && ran.steps == script.len() as u64 / 2
             && accesses[..ran.listed as usize * ACCESS] == stepped
             && record == player.record

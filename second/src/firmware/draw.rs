@@ -95,14 +95,16 @@ impl Draw {
         self.shape = shape;
         loop {
             let parts = self.parts();
-            if let Some(firmware) = self.finish(parts) {
+            let filled = self.fill(parts);
+            if let Some(firmware) = filled.and_then(|parts| self.finish(parts)) {
                 return firmware;
             }
         }
     }
 
-    /// None where the parts do not fit: into the room, a byte, or the number of records.
-    fn finish(&mut self, mut parts: Parts) -> Option<Firmware> {
+    /// What the shape asks for beside the parts themselves. None where it does not fit: into the room, a byte, or the number
+    /// of records.
+    fn fill(&mut self, mut parts: Parts) -> Option<Parts> {
         let (main_need, handler_need) = entry_needs(&self.place(&parts, 0x1000)?, &parts);
         let room = 253_usize.checked_sub(main_need + handler_need)?;
         if self.shape.is_deep {
@@ -119,7 +121,11 @@ impl Draw {
             let padding: Vec<Item> = (0..missing).map(|_| self.plain(0)).collect();
             parts.main.splice(end..end, padding);
         }
+        Some(parts)
+    }
 
+    /// At its place among the protected pages. None where there are too few.
+    fn finish(&mut self, parts: Parts) -> Option<Firmware> {
         let bytes = size(&parts.items());
         let least = (bytes + 4 + 255) / 256;
         if least > 254 {
