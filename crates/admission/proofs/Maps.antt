@@ -27,26 +27,18 @@ pub ascends-next : (map : List ℕ) (i : ℕ) → (i ≡ 0 → ⊥) → (m n : M
 ascends-next map zero h m n p q = absurd (h refl)
 ascends-next map (suc i) h m n p q = let e : suc i - 1 ≡ i = omega arith in rw (p, q, e)
 
-module _ (map : List ℕ) (asc : Ascending map) (p i : ℕ) where
-  pub up-to : i < marksIn map → markAt map i .address < p → (k : ℕ) → k < i + 1 → markAt map k .address < p
-  up-to n h k l = go (ℕ-discrete k i)
-    where
-      go : Dec (k ≡ i) → markAt map k .address < p
-      go (yes e) = rw e h
-      go (no d) = omega (arith, h, asc .ascends k i (omega arith) n)
+pub in-order : (map : List ℕ) → Ascending map → (j k : ℕ) → j ≤ k → k < marksIn map → markAt map j .address ≤ markAt map k .address
+in-order map asc j k h n = go (ℕ-discrete j k)
+  where
+    go : Dec (j ≡ k) → markAt map j .address ≤ markAt map k .address
+    go (yes e) = rw e (omega arith)
+    go (no d) = omega (arith, asc .ascends j k (omega arith) n)
 
-  pub from-on : p ≤ markAt map i .address → (k : ℕ) → i ≤ k → k < marksIn map → p ≤ markAt map k .address
-  from-on h k l n = go (ℕ-discrete k i)
-    where
-      go : Dec (k ≡ i) → p ≤ markAt map k .address
-      go (yes e) = rw e h
-      go (no d) = omega (arith, h, asc .ascends i k (omega arith) n)
-
--- one of the marks can be as f says, or none can
 or-false : (b : Bool) → (b || false) ≡ b
 or-false true = refl
 or-false false = refl
 
+-- none of the marks is as f says, or at most one of them
 module _ (map : List ℕ) (f : rules.Mark → Bool) where
   none-so : (n : ℕ) → ((k : ℕ) → k < n → f (markAt map k) ≡ false) → some f map n ≡ false
   none-so zero h = refl

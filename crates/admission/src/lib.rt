@@ -48,7 +48,7 @@ struct Successor {
     limit: u16,
 }
 
-// What an instruction's own rules (13 to 15) say: they are broken, or the first so many of two successors are asked for.
+// What a record's own rules (13 to 15) come to: one is broken, or so many successors are asked for (16), the first and perhaps a second.
 enum Rules {
     Broken(Refusal),
     Leads(u8, Successor, Successor),
@@ -167,6 +167,7 @@ fn need_at(map: &[u8], address: u16, kind: u8, height: u16) -> usize
     NONE
 }
 
+// Whether a successor is marked as is asked.
 fn is_reached(map: &[u8], s: Successor) -> bool
     requires { ⌜ Ascending (now map) ⌝ }
     ensures { λ r. ⌜ r ≡ reached (now (map .entry)) s ⌝ }
@@ -174,6 +175,7 @@ fn is_reached(map: &[u8], s: Successor) -> bool
     need_at(map, s.address, s.kind, s.height) + s.more as usize <= s.limit as usize
 }
 
+// Address sums wrap.
 fn byte_after(image: &[u8], p: u16, k: u16) -> u8
     requires { ⌜ length (now image) ≡ 65536 ⌝ }
     ensures { λ r. ⌜ r ≡ at (now (image .entry)) (sum16 p k) ⌝ }
@@ -218,6 +220,7 @@ fn goes_on(m: Mark, address: u16) -> Successor
     goes_to(m, address, m.height as u16, 0, m.need as u16)
 }
 
+// One successor; the second is not looked at.
 fn one(s: Successor) -> Rules
     ensures { λ r. ⌜ r ≡ one s ⌝ }
 {
@@ -337,6 +340,7 @@ fn size_of(entry: u8) -> u16
     decode::fetched(entry)
 }
 
+// The table's entry of the opcode at p.
 fn entry_at(image: &[u8], p: u16) -> u8
     requires { ⌜ length (now image) ≡ 65536 ⌝ }
     ensures { λ r. ⌜ (r ≡ numberOf (decode (at (now (image .entry)) p))) × (at (now (image .entry)) p < 256) ⌝ }

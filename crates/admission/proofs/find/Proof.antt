@@ -1,9 +1,9 @@
-use Rattle.admission.proofs.Maps.{up-to, from-on}
-use Prim.Native.Nat.{ℕ, _-_, _≤_, _<_}
+use Prim.Native.Nat.{ℕ, _+_, _-_, _/_, _≤_, _<_}
 use native.Mathlib.Omega.{arith}
 use mathlib.Core.List.{List}
-use borrow.Author.Needs.{needs}
 use Rattle.rules.specs.Admission.{markAt, marksIn}
+use Rattle.admission.proofs.Maps.{in-order}
+use borrow.Author.Needs.{needs}
 use Rattle.admission.proofs.find.Statement.{statement}
 use Rattle.admission.proofs.find.Tie as tie
 
@@ -25,12 +25,12 @@ loop-holds c = record { order = omega arith; within = omega arith; below = λ k 
 
 loop-again : tie.Need-loop-again Inv-loop μ-loop
 loop-again c =
-    let b = c .before .before .before .before .loop .inv in
+    let at = c .before .before .before .before .loop in
     record {
       order = omega arith;
-      within = b .within;
-      below = up-to _ (c .before .before .before .before .before .before .pre) _ _ (omega arith) (rw (c .before .before .mark-at .ensures) at (c .if1 .taken));
-      above = b .above;
+      within = at .inv .within;
+      below = λ k l. omega (arith, in-order _ (c .before .before .before .before .before .before .pre) k ((at .low + at .high) / 2) (omega arith) (omega arith), rw (c .before .before .mark-at .ensures) at (c .if1 .taken));
+      above = at .inv .above;
     }
 
 loop-again-2 : tie.Need-loop-again-2 Inv-loop μ-loop
@@ -40,7 +40,7 @@ loop-again-2 c =
       order = omega arith;
       within = omega arith;
       below = b .below;
-      above = from-on _ (c .before .before .before .before .before .before .pre) _ _ (rw (c .before .before .mark-at .ensures) at (c .if1 .left));
+      above = λ k l n. omega (arith, in-order _ (c .before .before .before .before .before .before .pre) _ k l n, rw (c .before .before .mark-at .ensures) at (c .if1 .left));
     }
 
 returns : tie.Need-returns Inv-loop μ-loop

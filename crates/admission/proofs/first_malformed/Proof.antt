@@ -1,12 +1,12 @@
-use borrow.Author.Tests.{not-true, not-false}
 use Prim.Native.Nat.{ℕ, _-_, _≤_, _<_}
 use native.Mathlib.Omega.{arith}
 use mathlib.Core.Path.{_≡_, sym, _∙_}
 use mathlib.Core.Bool.{true}
 use mathlib.Core.List.{List}
+use borrow.Author.Tests.{not-true, not-false}
 use borrow.Author.Count.{below-more}
-use borrow.Author.Needs.{needs}
 use Rattle.admission.specs.Maps.{formed}
+use borrow.Author.Needs.{needs}
 use Rattle.admission.proofs.first_malformed.Statement.{statement}
 use Rattle.admission.proofs.first_malformed.Tie as tie
 

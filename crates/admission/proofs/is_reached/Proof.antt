@@ -1,7 +1,7 @@
 use Prim.Native.Nat.{ℕ, _+_}
 use native.Mathlib.Omega.{arith}
-use lib.Dec.{leb}
 use borrow.Author.Tests.{lt-leb}
+use lib.Dec.{leb}
 use borrow.Author.Needs.{needs}
 use Rattle.admission.proofs.is_reached.Statement.{statement}
 use Rattle.admission.proofs.is_reached.Tie as tie

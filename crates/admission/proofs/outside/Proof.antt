@@ -1,7 +1,7 @@
 use borrow.Author.Tests.{le-leb, lt-leb}
+use Rattle.admission.proofs.Maps.{above}
 use Rattle.admission.proofs.outside.Statement.{statement}
 use Rattle.admission.proofs.outside.Tie as tie
-use Rattle.admission.proofs.Maps.{above}
 
 returns : tie.Need-returns
 returns c = rw (lt-leb _ _ (c .if1 .taken))
