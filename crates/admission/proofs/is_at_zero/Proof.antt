@@ -3,10 +3,10 @@ use Rattle.admission.proofs.is_at_zero.Statement.{statement}
 use Rattle.admission.proofs.is_at_zero.Tie as tie
 
 returns : tie.Need-returns
-returns c = search (eq-eqb, ne-eqb)
+returns c = search ne-eqb
 
 returns-2 : tie.Need-returns-2
-returns-2 c = search (eq-eqb, ne-eqb)
+returns-2 c = search eq-eqb
 
 pub is-at-zero-spec : {M : Type 1} → statement M
 is-at-zero-spec = tie.close (tie.spec returns returns-2)

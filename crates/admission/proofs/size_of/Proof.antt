@@ -4,7 +4,7 @@ use Rattle.admission.proofs.size_of.Statement.{statement}
 use Rattle.admission.proofs.size_of.Tie as tie
 
 returns : tie.Need-returns
-returns c = search (eq-eqb, ne-eqb)
+returns c = search eq-eqb
 
 returns-2 : tie.Need-returns-2
 returns-2 c = search (eq-eqb, ne-eqb, c .fetched .ensures)
