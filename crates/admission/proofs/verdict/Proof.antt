@@ -1,7 +1,7 @@
 use native.Mathlib.Omega.{arith}
 use mathlib.Core.Path.{sym, _∙_}
-use denote.Ref.{now}
 use borrow.Author.Tests.{not-true, not-false}
+use denote.Ref.{now}
 use Rattle.admission.proofs.Forms.{ascending}
 use Rattle.admission.proofs.Admitted.{unfit, lengths-fit, bad-record, bad-vectors, records-left}
 use borrow.Author.Needs.{needs}
