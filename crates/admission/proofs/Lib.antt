@@ -4,3 +4,4 @@ pub mod Judged
 pub mod Maps
 pub mod Records
 pub mod Settled
+pub mod Entries

@@ -1,7 +1,5 @@
 // The judgement of an image with its map: "it accepts exactly when all the rules above hold".
 
-use rules::Instruction;
-use rules::Mode;
 use rules::Refusal;
 use rules::Verdict;
 ghost use Prim.Native.Nat.{ℕ, _+_, _≤_, _<_};
@@ -17,7 +15,7 @@ ghost use Rattle.rules.specs.Answers.{tested};
 ghost use Rattle.rules.specs.Bus.{images};
 ghost use Rattle.rules.specs.Admission.{marksIn, marked, ascends, inputFits, vectorsHold, ofRecords, ruleTests, admit};
 ghost use Rattle.rules.specs.Safety.{Safe, PlaysOut};
-ghost use Rattle.table.specs.Numbers.{numberOf, fetched};
+ghost use Rattle.table.specs.Numbers.{numberOf, entries, modeOf, singleOf, made, fetched};
 ghost use Rattle.admission.specs.Rules.{markOf, goesTo, goesOn, one, rulesUnless, outside, stored, isAtZero, pulled, calls, rulesFor, reached, settled};
 ghost use Rattle.admission.specs.Maps.{formed, Formed, Ascending, Found, NeedAt};
 
@@ -244,21 +242,26 @@ fn outside(least: u16, a: u16) -> bool
     a > 0x01FF
 }
 
-// 14: "Stores, shifts, INC, DEC: absolute address not 0100 to 01FF; a,X or a,Y base not 0001 to 01FF"; and 13: "not .. 81, 91"
-fn stored(md: Mode, i: u16, r: Rules) -> Rules
-    ensures { λ q. ⌜ q ≡ stored md i r ⌝ }
+// 14: "Stores, shifts, INC, DEC: absolute address not 0100 to 01FF; a,X or a,Y base not 0001 to 01FF"; and 13: "not .. 81, 91". The mode is
+// that of the table's entry, in the order of rules::Mode.
+fn stored(mode: u8, low: u8, high: u8, i: u16, r: Rules) -> Rules
+    ensures { λ q. ⌜ q ≡ stored (modeOf mode low high) i r ⌝ }
 {
-    match md {
-        Mode::Immediate(_) => r,
-        Mode::Zero(_) => r,
-        Mode::ZeroX(_) => r,
-        Mode::ZeroY(_) => r,
-        Mode::Absolute(a) => unless(outside(0x0100, a), Refusal::StoreAddress(i), r),
-        Mode::AbsoluteX(a) => unless(outside(0x0001, a), Refusal::StoreAddress(i), r),
-        Mode::AbsoluteY(a) => unless(outside(0x0001, a), Refusal::StoreAddress(i), r),
-        Mode::IndirectX(_) => Rules::Broken(Refusal::Place(i)),
-        Mode::IndirectY(_) => Rules::Broken(Refusal::Place(i)),
-        Mode::IndirectBankY(_) => Rules::Broken(Refusal::Place(i)),
+    let a = bytes::join(low, high);
+    match mode {
+        // #, z, z,X, z,Y
+        0 => r,
+        1 => r,
+        2 => r,
+        3 => r,
+        // a; a,X; a,Y
+        4 => unless(outside(0x0100, a), Refusal::StoreAddress(i), r),
+        5 => unless(outside(0x0001, a), Refusal::StoreAddress(i), r),
+        6 => unless(outside(0x0001, a), Refusal::StoreAddress(i), r),
+        // (z,X), (z),Y
+        7 => Rules::Broken(Refusal::Place(i)),
+        8 => Rules::Broken(Refusal::Place(i)),
+        _ => Rules::Broken(Refusal::Place(i)),
     }
 }
 
@@ -294,40 +297,59 @@ fn calls(m: Mark, routine: u16) -> Successor
     }
 }
 
-// The rules of an instruction at a record; `next` is the next address, `routine` JSR's target.
-fn rules_for(ins: Instruction, m: Mark, next: u16, routine: u16, i: u16) -> Rules
-    ensures { λ r. ⌜ r ≡ rulesFor m next routine i ins ⌝ }
+// The rules of what has neither a mode nor a condition and is not done inside: each has its own. n is the number of its entry from JMP on.
+fn rules_for_single(n: u8, low: u8, high: u8, m: Mark, next: u16, i: u16) -> Rules
+    ensures { λ r. ⌜ r ≡ rulesFor m next (address low high) i (singleOf n low high) ⌝ }
 {
+    let a = bytes::join(low, high);
     let on = goes_on(m, next);
     let up = goes_to(m, next, m.height as u16 + 1, 1, m.need as u16);
-    match ins {
-        Instruction::Read(_, _) => one(on),
-        Instruction::Store(_, md) => stored(md, i, one(on)),
-        Instruction::Change(_, md) => stored(md, i, one(on)),
-        Instruction::Accumulator(_) => one(on),
-        Instruction::Implied(_) => one(on),
-        Instruction::Branch(_, o) => Rules::Leads(2, on, goes_on(m, bytes::target(next, o))),
-        Instruction::Jump(a) => one(goes_on(m, a)),
-        Instruction::JumpIndirect(_) => Rules::Broken(Refusal::Place(i)),
-        Instruction::Jsr(_) => Rules::Leads(2, on, calls(m, routine)),
-        Instruction::Rts => unless(
+    match n {
+        // JMP a, JMP (a), JSR
+        0 => one(goes_on(m, a)),
+        1 => Rules::Broken(Refusal::Place(i)),
+        2 => Rules::Leads(2, on, calls(m, a)),
+        // RTS, RTI, BRK
+        3 => unless(
             is_at_zero(m, ROUTINE),
             Refusal::Stack(i),
             Rules::Leads(0, on, on),
         ),
-        Instruction::Rti => unless(
+        4 => unless(
             is_at_zero(m, HANDLER),
             Refusal::Stack(i),
             Rules::Leads(0, on, on),
         ),
-        Instruction::Brk => Rules::Broken(Refusal::Place(i)),
-        Instruction::Php => one(up),
-        Instruction::Plp => Rules::Broken(Refusal::Place(i)),
-        Instruction::Pha => one(up),
-        Instruction::Pla => pulled(m, next, i),
-        Instruction::Txs => unless(is_at_zero(m, MAIN), Refusal::Stack(i), one(on)),
-        Instruction::Cli => unless(m.kind == MAIN, Refusal::Stack(i), one(on)),
+        5 => Rules::Broken(Refusal::Place(i)),
+        // PHP, PLP, PHA, PLA
+        6 => one(up),
+        7 => Rules::Broken(Refusal::Place(i)),
+        8 => one(up),
+        9 => pulled(m, next, i),
+        // TXS, CLI
+        10 => unless(is_at_zero(m, MAIN), Refusal::Stack(i), one(on)),
+        _ => unless(m.kind == MAIN, Refusal::Stack(i), one(on)),
     }
+}
+
+// The rules of an instruction at a record, by its entry in the table; `next` is the next address.
+fn rules_for(entry: u8, low: u8, high: u8, m: Mark, next: u16, i: u16) -> Rules
+    ensures { λ r. ⌜ r ≡ rulesFor m next (address low high) i (made entry low high) ⌝ }
+{
+    let on = goes_on(m, next);
+    if entry < table::ASL_A {
+        if entry % table::MODE < table::STA {
+            return one(on);
+        }
+        return stored(entry / table::MODE, low, high, i, one(on));
+    }
+    if entry < table::BPL {
+        return one(on);
+    }
+    if entry < table::JMP {
+        return Rules::Leads(2, on, goes_on(m, bytes::target(next, low)));
+    }
+    rules_for_single(entry - table::JMP, low, high, m, next, i)
 }
 
 // How many bytes an instruction is long. JSR's high operand is fetched by the instruction itself.
@@ -341,16 +363,16 @@ fn size_of(entry: u8) -> u16
 }
 
 // The table's entry of the opcode at p.
-fn entry_at(image: &[u8], p: u16) -> u8
-    requires { ⌜ length (now image) ≡ 65536 ⌝ }
+fn entry_at(image: &[u8], opcodes: &[u8], p: u16) -> u8
+    requires { ⌜ (length (now image) ≡ 65536) × (now opcodes ≡ entries) ⌝ }
     ensures { λ r. ⌜ (r ≡ numberOf (decode (at (now (image .entry)) p))) × (at (now (image .entry)) p < 256) ⌝ }
 {
-    table::entry_of(image[p as usize])
+    opcodes[image[p as usize] as usize]
 }
 
 // Record i's own rules. 13: "place, undefined or barred opcode"; the others are the instruction's.
-fn rules_at(image: &[u8], c: u8, map: &[u8], i: usize) -> Rules
-    requires { ⌜ (length (now image) ≡ 65536) × (i < marksIn (now map)) × (i < 65536) ⌝ }
+fn rules_at(image: &[u8], opcodes: &[u8], c: u8, map: &[u8], i: usize) -> Rules
+    requires { ⌜ ((length (now image) ≡ 65536) × (now opcodes ≡ entries)) × (i < marksIn (now map)) × (i < 65536) ⌝ }
     ensures { λ r. ⌜ ((v : Verdict) → tested (ruleTests images (now (image .entry)) c (now (map .entry)) i) Barred v ≡ settled (now (map .entry)) i r v) ⌝ }
 {
     let index = i as u16;
@@ -359,7 +381,7 @@ fn rules_at(image: &[u8], c: u8, map: &[u8], i: usize) -> Rules
     if a / 256 < 256 - c as u16 {
         return Rules::Broken(Refusal::Place(index));
     }
-    let entry = entry_at(image, a);
+    let entry = entry_at(image, opcodes, a);
     let size = size_of(entry);
     if a as usize + size as usize > 65536 {
         return Rules::Broken(Refusal::Place(index));
@@ -370,25 +392,26 @@ fn rules_at(image: &[u8], c: u8, map: &[u8], i: usize) -> Rules
     let low = byte_after(image, a, 1);
     let high = byte_after(image, a, 2);
     rules_for(
-        decode::instruction_of(entry, low, high),
+        entry,
+        low,
+        high,
         m,
         std::num::wrapping_add_u16(a, size),
-        bytes::join(low, high),
         index,
     )
 }
 
 // 13 to 16: "the lowest record, and at it the lowest number". The loop over the records and the one over a record's successors are both left
 // by the label at the first broken rule.
-fn judge(image: &[u8], c: u8, map: &[u8]) -> Verdict
-    requires { ⌜ ((length (now image) ≡ 65536) × (length (now map) ≤ 65536)) × Ascending (now map) ⌝ }
+fn judge(image: &[u8], opcodes: &[u8], c: u8, map: &[u8]) -> Verdict
+    requires { ⌜ ((length (now image) ≡ 65536) × (length (now map) ≤ 65536)) × Ascending (now map) × (now opcodes ≡ entries) ⌝ }
     ensures { λ r. ⌜ r ≡ tested (ofRecords (ruleTests images (now (image .entry)) c (now (map .entry))) 0 (marksIn (now (map .entry)))) Barred Accepted ⌝ }
 {
     let n = map.len() / 8;
     let mut i: usize = 0;
     let mut verdict = Verdict::Accepted;
     'records: while i < n {
-        match rules_at(image, c, map, i) {
+        match rules_at(image, opcodes, c, map, i) {
             Rules::Broken(e) => {
                 verdict = Verdict::Barred(e);
                 break 'records;
@@ -448,7 +471,8 @@ fn verdict(image: &[u8], c: u8, map: &[u8]) -> Verdict
     if !vectors_hold(image, map) {
         return Verdict::Barred(Refusal::Vectors);
     }
-    judge(image, c, map)
+    let opcodes = table::entries();
+    judge(image, &opcodes, c, map)
 }
 
 // Demand 3: it "accepts exactly by the map's rules", and what it accepts is safe on every sequence of steps and in every run.

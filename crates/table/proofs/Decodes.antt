@@ -4,20 +4,24 @@ use mathlib.Core.Path.{_≡_, refl, sym, ap, _∙_}
 use mathlib.Core.Bool.{true, not, false≢true}
 use mathlib.Core.List.{map}
 use lib.Dec.{eqb}
-use lib.ListN.{getD}
+use lib.ListN.{length, getD}
 use Rattle.rules.specs.declared.Instruction.{Instruction}
 use Rattle.rules.specs.declared.Instruction.the-variants.{Cli}
 use Rattle.rules.specs.Basics.{if_then_else_}
 use Rattle.rules.specs.Opcodes.{Entry, undefined, alone, byte, word, late, decode, sizeOf, isDefined, ofInstruction}
 use Rattle.rules.specs.Table.{table}
 use Rattle.rules.proofs.Table.{table-at}
-use Rattle.table.specs.Numbers.{number, numberOf, made, fetched, fetchedBy}
+use Rattle.table.specs.Numbers.{number, numberOf, entries, made, fetched, fetchedBy}
 use Rattle.table.proofs.Lists.{at-map}
 
 -- a list made of the table's entries has at n what is made of opcode n
 pub at-opcode : {A : Type 0} (f : Entry → A) (x : A) (n : ℕ) → n < 256 → getD (map f table) n x ≡ f (decode n)
 unfolding table
 at-opcode f x n h = at-map f table n x undefined h ∙ ap f (table-at n h)
+
+pub entries-length : length entries ≡ 256
+unfolding table
+entries-length = refl
 
 everywhere : {A : Type 0} (f g : Entry → A) → map f table ≡ map g table → (n : ℕ) → n < 256 → f (decode n) ≡ g (decode n)
 everywhere f g e n h = sym (at-opcode f (f undefined) n h) ∙ (rw e (at-opcode g (f undefined) n h))

@@ -1,7 +1,7 @@
 -- An instruction as a number, its operand apart: what an entry of the table is. Of the 21 operations that have a mode it is 21 times the
 -- mode and the operation.
 use Prim.Native.Nat.{ℕ, _+_, _-_, _*_, _/_, _%_}
-use mathlib.Core.List.{List, [], _∷_}
+use mathlib.Core.List.{List, [], _∷_, map}
 use lib.Dec.{ltb, eqb}
 use lib.ListN.{getD}
 use Rattle.rules.specs.declared.Mode.{Mode}
@@ -20,6 +20,7 @@ use Rattle.rules.specs.declared.Instruction.{Instruction}
 use Rattle.rules.specs.declared.Instruction.the-variants.{Read, Store, Change, Accumulator, Implied, Branch, Jump, JumpIndirect, Jsr, Rts, Rti, Brk, Php, Plp, Pha, Pla, Txs, Cli}
 use Rattle.rules.specs.Basics.{if_then_else_, address}
 use Rattle.rules.specs.Opcodes.{Entry, undefined, alone, byte, word, late}
+use Rattle.rules.specs.Table.{table}
 
 abbrev pub modeNumber : Mode → ℕ
 modeNumber (Immediate v) = 0
@@ -115,6 +116,10 @@ numberOf (alone i) = number i
 numberOf (byte f) = number (f 0)
 numberOf (word f) = number (f 0)
 numberOf (late f) = number (f 0)
+
+-- all entries, in the opcodes' order
+abbrev pub entries : List ℕ
+entries = map numberOf table
 
 -- The way back: what stands at a number's place. The last of each kind is what a greater number is taken for.
 

@@ -6,7 +6,7 @@
 
 ghost use mathlib.Core.Path.{_≡_};
 ghost use Rattle.rules.specs.Opcodes.{decode};
-ghost use Rattle.table.specs.Numbers.{numberOf};
+ghost use Rattle.table.specs.Numbers.{numberOf, entries};
 
 // What reads a byte.
 const ORA: u8 = 0;
@@ -444,4 +444,11 @@ pub fn entry_of(opcode: u8) -> u8
     ensures { λ r. ⌜ r ≡ numberOf (decode opcode) ⌝ }
 {
     TABLE[opcode as usize]
+}
+
+// All entries at once, for who reads many.
+pub fn entries() -> [u8; 256]
+    ensures { λ r. ⌜ r ≡ entries ⌝ }
+{
+    TABLE
 }

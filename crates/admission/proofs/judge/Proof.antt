@@ -12,16 +12,16 @@ use Rattle.admission.proofs.judge.Statement.{statement}
 use Rattle.admission.proofs.judge.Tie as tie
 
 abbrev Inv-loop : tie.InvT-loop
-Inv-loop image c map n i verdict₀ count second left₀ successor₀ verdict left successor = Led map i second left₀ successor₀ left successor verdict
+Inv-loop image opcodes c map n i verdict₀ count second left₀ successor₀ verdict left successor = Led map i second left₀ successor₀ left successor verdict
 
 abbrev μ-loop : tie.MeasureT-loop
-μ-loop image c map n i verdict₀ count second left₀ successor₀ verdict left successor = left
+μ-loop image opcodes c map n i verdict₀ count second left₀ successor₀ verdict left successor = left
 
 abbrev Inv-records : tie.InvT-records
-Inv-records image c map n i₀ verdict₀ i verdict = Passed (ruleTests images image c map) (marksIn map) i verdict
+Inv-records image opcodes c map n i₀ verdict₀ i verdict = Passed (ruleTests images image c map) (marksIn map) i verdict
 
 abbrev μ-records : tie.MeasureT-records
-μ-records image c map n i₀ verdict₀ i verdict = n - i
+μ-records image opcodes c map n i₀ verdict₀ i verdict = n - i
 
 records-holds : tie.Need-records-holds Inv-loop μ-loop Inv-records μ-records
 records-holds c = record { within = omega arith; none = refl; same = rw sub-zero }
@@ -38,7 +38,7 @@ records-again c =
       within = omega arith;
       none = c .before .loop .inv .none;
       same =
-          comes-to (c .before .before .before .before .before .before .before .records .inv) (c .before .before .before .before .before .before .records-test .taken) (now (c .before .before .before .before .before .before .before .before .before .before .args .map)) _ _ (c .before .before .before .before .before .rules-at .ensures) (c .before .before .before .count .given .1)
+          comes-to (c .before .before .before .before .before .before .before .records .inv) (c .before .before .before .before .before .before .records-test .taken) (now (c .before .before .before .before .before .before .before .before .before .before .before .args .map)) _ _ (c .before .before .before .before .before .rules-at .ensures) (c .before .before .before .count .given .1)
           ∙ all-led _ (c .before .loop .inv) (c .loop-test .left) _;
     }
 
@@ -46,12 +46,12 @@ returns : tie.Need-returns Inv-loop μ-loop Inv-records μ-records
 returns c = c .before .records .inv .none ∙ sym (c .before .records .inv .same ∙ no-record _ _ _ _ (c .records-test .left))
 
 returns-2 : tie.Need-returns-2 Inv-loop μ-loop Inv-records μ-records
-returns-2 c = sym (comes-to (c .before .before .before .before .before .records .inv) (c .before .before .before .before .records-test .taken) (now (c .before .before .before .before .before .before .before .before .args .map)) _ _ (c .before .before .before .rules-at .ensures) (c .before .e .given .1))
+returns-2 c = sym (comes-to (c .before .before .before .before .before .records .inv) (c .before .before .before .before .records-test .taken) (now (c .before .before .before .before .before .before .before .before .before .args .map)) _ _ (c .before .before .before .rules-at .ensures) (c .before .e .given .1))
 
 returns-3 : tie.Need-returns-3 Inv-loop μ-loop Inv-records μ-records
 returns-3 c =
     sym
-    (comes-to (c .before .before .before .before .before .before .before .before .before .records .inv) (c .before .before .before .before .before .before .before .before .records-test .taken) (now (c .before .before .before .before .before .before .before .before .before .before .before .before .args .map)) _ _ (c .before .before .before .before .before .before .before .rules-at .ensures) (c .before .before .before .before .before .count .given .1)
+    (comes-to (c .before .before .before .before .before .before .before .before .before .records .inv) (c .before .before .before .before .before .before .before .before .records-test .taken) (now (c .before .before .before .before .before .before .before .before .before .before .before .before .before .args .map)) _ _ (c .before .before .before .before .before .before .before .rules-at .ensures) (c .before .before .before .before .before .count .given .1)
     ∙ leads-astray _ (c .before .before .before .loop .inv) (c .before .before .loop-test .taken) (sym (c .before .is-reached .ensures) ∙ not-true _ (c .if1 .taken)) _)
 
 pub judge-spec : {M : Type 1} → statement M

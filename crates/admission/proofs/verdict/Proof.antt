@@ -13,8 +13,8 @@ returns c =
     let a = c .before .before .before .before .args in
     sym (unfit (now (a .image)) (a .c) (now (a .map)) (sym (c .before .input-fits .ensures) ∙ not-true _ (c .if1 .taken)))
 
-cast-t10 : tie.Need-cast-t10
-cast-t10 c =
+cast-t11 : tie.Need-cast-t11
+cast-t11 c =
     let a = c .before .before .before .before .before .before .args in
     omega (arith, lengths-fit (now (a .image)) (a .c) (now (a .map)) (sym (c .before .before .before .input-fits .ensures) ∙ not-false _ (c .before .before .if1 .left)))
 
@@ -35,13 +35,13 @@ returns-3 c =
 
 judge-requires : tie.Need-judge-requires
 judge-requires c κs =
-    let a = c .before .before .before .before .before .before .before .before .args in
-    (lengths-fit (now (a .image)) (a .c) (now (a .map)) (sym (c .before .before .before .before .before .input-fits .ensures) ∙ not-false _ (c .before .before .before .before .if1 .left)), (ascending _ _ (c .before .before .before .first-malformed .ensures) (c .before .before .if2 .left)))
+    let a = c .before .before .before .before .before .before .before .before .before .before .args in
+    (lengths-fit (now (a .image)) (a .c) (now (a .map)) (sym (c .before .before .before .before .before .before .before .input-fits .ensures) ∙ not-false _ (c .before .before .before .before .before .before .if1 .left)), (ascending _ _ (c .before .before .before .before .before .first-malformed .ensures) (c .before .before .before .before .if2 .left)), c .before .entries .ensures)
 
 returns-4 : tie.Need-returns-4
 returns-4 c =
-    let a = c .before .before .before .before .before .before .before .before .before .args in
-    c .judge .ensures ∙ sym (records-left (now (a .image)) (a .c) (now (a .map)) (sym (c .before .before .before .before .before .before .input-fits .ensures) ∙ not-false _ (c .before .before .before .before .before .if1 .left)) _ (c .before .before .before .before .first-malformed .ensures) (c .before .before .before .if2 .left) (sym (c .before .before .vectors-hold .ensures _) ∙ not-false _ (c .before .if3 .left)))
+    let a = c .before .before .before .before .before .before .before .before .before .before .before .args in
+    c .judge .ensures ∙ sym (records-left (now (a .image)) (a .c) (now (a .map)) (sym (c .before .before .before .before .before .before .before .before .input-fits .ensures) ∙ not-false _ (c .before .before .before .before .before .before .before .if1 .left)) _ (c .before .before .before .before .before .before .first-malformed .ensures) (c .before .before .before .before .before .if2 .left) (sym (c .before .before .before .before .vectors-hold .ensures _) ∙ not-false _ (c .before .before .before .if3 .left)))
 
 pub verdict-spec : {M : Type 1} → statement M
 verdict-spec =
@@ -50,9 +50,11 @@ verdict-spec =
     (λ c κs. search needs)
     returns
     (λ c κs. search needs)
-    cast-t10
+    cast-t11
     returns-2
     vectors-hold-requires
     returns-3
+    (λ c κs. search needs)
+    (λ c. search needs)
     judge-requires
     returns-4)
