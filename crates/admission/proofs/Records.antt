@@ -6,7 +6,6 @@ use mathlib.Core.Bool.{true, false}
 use mathlib.Core.List.{List, []}
 use borrow.Author.Tests.{le-leb, lt-leb, eq-eqb, ne-eqb, not-true, not-false}
 use lib.Dec.{eqb}
-use Rattle.rules.specs.declared.Instruction.{Instruction}
 use Rattle.rules.specs.declared.Refusal.the-variants.{Place}
 use Rattle.rules.specs.declared.Verdict.{Verdict}
 use Rattle.rules.specs.declared.Verdict.the-variants.{Barred}
@@ -62,21 +61,18 @@ module _ (m : List ℕ) (c : ℕ) (map : List ℕ) (i : ℕ) (k : Mark) (here : 
             rw (le-leb (256 - c) (p / 256) (rw here at kept), le-leb (p + sizeOf (decode opcode)) 65536 (rw (long, here) at whole), d)
 
         -- the instruction with its two bytes low and high, and what the code makes of it
-        pub its-own : (e ≡ 255 → ⊥) → (low high next call : ℕ) (x : Instruction) (r : Rules) → low ≡ at m (sum16 (k .address) 1) →
-            high ≡ at m (sum16 (k .address) 2) → next ≡ sum16 (k .address) n → call ≡ address low high → x ≡ made e low high →
-            r ≡ rulesFor k next call i x → its ≡ settled map i r v
+        pub its-own : (e ≡ 255 → ⊥) → (low high next : ℕ) (r : Rules) → low ≡ at m (sum16 (k .address) 1) → high ≡ at m (sum16 (k .address) 2) →
+            next ≡ sum16 (k .address) n → r ≡ rulesFor k next (address low high) i (made e low high) → its ≡ settled map i r v
         unfolding ruleTests
-        its-own h low high next call x r l g s j y q =
+        its-own h low high next r l g s q =
             let d : isDefined (decode opcode) ≡ true = not-false _ (sym (defined-is opcode byte) ∙ ne-eqb _ 255 (λ z. h (number ∙ z))) in
             let lo = at m (sum16 p 1) in
             let hi = at m (sum16 p 2) in
             let l′ : low ≡ lo = rw here at l in
             let g′ : high ≡ hi = rw here at g in
             let s′ : next ≡ sum16 p (sizeOf (decode opcode)) = rw (here, long) at s in
-            let j′ : call ≡ address lo hi = j ∙ (λ t. address (l′ t) (g′ t)) in
-            let y′ : x ≡ made (numberOf (decode opcode)) lo hi = y ∙ (λ t. made (number t) (l′ t) (g′ t)) in
             let two : sum16 (sum16 p 1) 1 ≡ sum16 p 2 = omega arith in
             rw (le-leb (256 - c) (p / 256) (rw here at kept), le-leb (p + sizeOf (decode opcode)) 65536 (rw (long, here) at whole), d)
             (ap (λ (t : List Test). tested t Barred v) (sym (made-of (rulesOf images m c map i) [] opcode lo hi byte d))
             ∙ (rw two at (rules-are map i m c (made (numberOf (decode opcode)) lo hi) v))
-            ∙ ap (λ (z : Rules). settled map i z v) (sym (q ∙ (λ t. rulesFor (here t) (s′ t) (j′ t) i (y′ t)))))
+            ∙ ap (λ (z : Rules). settled map i z v) (sym (q ∙ (λ t. rulesFor (here t) (s′ t) (address (l′ t) (g′ t)) i (made (number t) (l′ t) (g′ t))))))

@@ -1,4 +1,3 @@
-use mathlib.Core.Path.{refl}
 use denote.Ref.{now}
 use Rattle.admission.proofs.Records.{unprotected, too-long, not-defined, its-own}
 use borrow.Author.Needs.{needs}
@@ -24,8 +23,8 @@ returns-4 : tie.Need-returns-4
 returns-4 c =
     let a = c .before .before .before .before .before .before .before .before .before .before .before .before .before .args in
     λ v.
-    its-own (now (a .image)) (a .c) (now (a .map)) (a .i) _ (c .before .before .before .before .before .before .before .before .before .mark-at .ensures) v (c .before .before .before .before .before .before .before .before .if1 .left) _ _ (c .before .before .before .before .before .before .before .entry-at .ensures) (c .before .before .before .before .before .before .size-of .ensures) (c .before .before .before .before .before .if2 .left) (c .before .before .before .before .if3 .left) _ _ _ _ _ _
-    (c .before .before .before .byte-after .ensures) (c .before .before .byte-after2 .ensures) (c .before .wrapping-add-u16 .ensures) refl refl (c .rules-for .ensures)
+    its-own (now (a .image)) (a .c) (now (a .map)) (a .i) _ (c .before .before .before .before .before .before .before .before .before .mark-at .ensures) v (c .before .before .before .before .before .before .before .before .if1 .left) _ _ (c .before .before .before .before .before .before .before .entry-at .ensures) (c .before .before .before .before .before .before .size-of .ensures) (c .before .before .before .before .before .if2 .left) (c .before .before .before .before .if3 .left) _ _ _ _
+    (c .before .before .before .byte-after .ensures) (c .before .before .byte-after2 .ensures) (c .before .wrapping-add-u16 .ensures) (c .rules-for .ensures)
 
 pub rules-at-spec : {M : Type 1} → statement M
 rules-at-spec =
