@@ -216,7 +216,8 @@ uint64_t wankitare_append_at(uint64_t file_len);
  *
  * An admitted image, from a reset on, never makes wankitare_step refuse, runs only instructions of its map, writes the
  * stack page only by pushes and keeps 0 to 256 bytes on the stack: for a 6502 whose record has this c, under any resets
- * and interrupt requests, as long as NMI stays released and nobody else writes the stack page or the protected ones.
+ * and interrupt requests, as long as NMI stays released and nobody else writes the stack page or the protected ones. (A
+ * step still refuses what is no fault of the image: a wrong length, lines or pins that the part has not.)
  */
 uint64_t wankitare_admit(const uint8_t *image, size_t image_len, uint8_t c, const uint8_t *map, size_t map_len);
 

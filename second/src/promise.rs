@@ -226,6 +226,7 @@ fn neighbours_write(random: &mut Random, firmware: &Firmware, image: &mut [u8]) 
         1..=8 => 2,
         _ => return 0,
     };
+    let mut written = 0;
     for _ in 0..most {
         let at = match random.below(4) {
             0 | 1 => random.below(0x0100),
@@ -234,9 +235,10 @@ fn neighbours_write(random: &mut Random, firmware: &Firmware, image: &mut [u8]) 
         };
         if at >> 8 != 1 && at < firmware.first_protected() {
             image[at] = random.edge_or_byte();
+            written += 1;
         }
     }
-    most
+    written
 }
 
 fn tell(firmware: &Firmware) {
