@@ -11,7 +11,7 @@ ghost use Rattle.rules.specs.Addressing.{oldPage, pointer, zeroIndexed, loadInd
 ghost use Rattle.wiring.specs.Wiring.{Stands, Ready};
 ghost use Rattle.bus.specs.Goes.{Goes};
 ghost use Rattle.addressing.specs.Start.{fetchedOf};
-ghost use Rattle.rules.proofs.Lengths.{placeMost};
+ghost use Rattle.laws.proofs.Lengths.{placeMost};
 
 // A byte that was found, and the accesses made so far.
 pub struct Loaded {

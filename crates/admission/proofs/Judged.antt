@@ -8,11 +8,11 @@ use Rattle.rules.specs.declared.Refusal.the-variants.{Successor}
 use Rattle.rules.specs.declared.Verdict.{Verdict}
 use Rattle.rules.specs.declared.Verdict.the-variants.{Accepted, Barred}
 use Rattle.rules.specs.Answers.{Test, tested}
-use Rattle.rules.specs.Admission.{ofRecords}
-use Rattle.admission.specs.declared.Rules.{Rules}
-use Rattle.admission.specs.declared.Successor as code
-use Rattle.admission.specs.Rules.{reached, leads, settled}
-use Rattle.admission.proofs.Settled.{tested-append}
+use Rattle.laws.proofs.Tests.{tested-append}
+use Rattle.admission_rules.specs.Admission.{ofRecords}
+use Rattle.instruction_rules.specs.declared.Rules.{Rules}
+use Rattle.instruction_rules.specs.declared.Successor as code
+use Rattle.admission.specs.Settled.{reached, leads, settled}
 
 -- the tests of the records from i on, of n, where v is what follows them
 abbrev pub from : (ℕ → List Test) → ℕ → ℕ → Verdict → Verdict
@@ -26,7 +26,7 @@ module _ (f : ℕ → List Test) (i n : ℕ) (v : Verdict) where
   record-first h =
       let e : n - i ≡ suc (n - (i + 1)) = omega arith in
       let s : i + 1 ≡ suc i = omega arith in
-      rw (e, s) (tested-append (f i) (ofRecords f (suc i) (n - suc i)) v)
+      rw (e, s) (tested-append (f i) (ofRecords f (suc i) (n - suc i)) Barred v)
 
 -- no rule is broken yet, and the records from i on say what all of them say
 pub record Passed (f : ℕ → List Test) (n i : ℕ) (verdict : Verdict) : Type 0 where

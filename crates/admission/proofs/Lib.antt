@@ -1,7 +1,6 @@
 pub mod Admitted
 pub mod Forms
 pub mod Judged
-pub mod Maps
 pub mod Records
+pub mod Rooms
 pub mod Settled
-pub mod Entries

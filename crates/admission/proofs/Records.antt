@@ -13,12 +13,14 @@ use Rattle.rules.specs.Basics.{if_then_else_, at, address, sum16}
 use Rattle.rules.specs.Opcodes.{decode, sizeOf, isDefined}
 use Rattle.rules.specs.Answers.{Test, tested}
 use Rattle.rules.specs.Bus.{images}
-use Rattle.rules.specs.Admission.{markAt, rulesOf, ruleTests}
+use Rattle.admission_rules.specs.Admission.{markAt, rulesOf, ruleTests}
 use Rattle.table.specs.Numbers.{numberOf, made, fetched}
 use Rattle.table.proofs.Decodes.{made-of, sized-is, defined-is}
-use Rattle.admission.specs.declared.Mark.{Mark}
-use Rattle.admission.specs.declared.Rules.{Rules}
-use Rattle.admission.specs.Rules.{markOf, rulesFor, settled}
+use Rattle.marks.specs.declared.Mark.{Mark}
+use Rattle.instruction_rules.specs.declared.Rules.{Rules}
+use Rattle.marks.specs.Maps.{markOf}
+use Rattle.instruction_rules.specs.Rules.{rulesFor}
+use Rattle.admission.specs.Settled.{settled}
 use Rattle.admission.proofs.Settled.{rules-are}
 
 module _ (m : List ℕ) (c : ℕ) (map : List ℕ) (i : ℕ) (k : Mark) (here : k ≡ markOf map i) (v : Verdict) where

@@ -15,16 +15,14 @@ use Rattle.rules.specs.declared.Verdict.the-variants.{Barred}
 use Rattle.rules.specs.Basics.{if_then_else_, sum16}
 use Rattle.rules.specs.Answers.{Test, tested}
 use Rattle.rules.specs.Bus.{images}
-use Rattle.rules.specs.Admission.{main, routine, handler, next, wordAt, storeTests, rulesOf}
-use Rattle.admission.specs.declared.Mark.{Mark}
-use Rattle.admission.specs.declared.Rules.{Rules}
-use Rattle.admission.specs.declared.Rules.the-variants.{Leads}
-use Rattle.admission.specs.Rules.{markOf, rulesUnless, outside, stored, goesTo, goesOn, one, isAtZero, rulesFor, settled}
-
--- tests after others
-pub tested-append : (a b : List Test) (v : Verdict) → tested (a ++ b) Barred v ≡ tested a Barred (tested b Barred v)
-tested-append [] b v = refl
-tested-append (t ∷ a) b v = ap (λ (w : Verdict). if t .holds then w else Barred (t .refusal)) (tested-append a b v)
+use Rattle.laws.proofs.Tests.{tested-append}
+use Rattle.admission_rules.specs.Admission.{main, routine, handler, next, wordAt, storeTests, rulesOf}
+use Rattle.marks.specs.declared.Mark.{Mark}
+use Rattle.instruction_rules.specs.declared.Rules.{Rules}
+use Rattle.instruction_rules.specs.declared.Rules.the-variants.{Leads}
+use Rattle.marks.specs.Maps.{markOf}
+use Rattle.instruction_rules.specs.Rules.{rulesUnless, outside, stored, goesTo, goesOn, one, isAtZero, rulesFor}
+use Rattle.admission.specs.Settled.{settled}
 
 module _ (map : List ℕ) (i : ℕ) where
   settled-unless : (b : Bool) (e : Refusal) (r : Rules) (v : Verdict) →
@@ -57,8 +55,8 @@ module _ (map : List ℕ) (i : ℕ) where
     pub rules-are : (x : Instruction) (v : Verdict) → tested (rulesOf images m c map i x) Barred v ≡ settled map i (its x) v
     unfolding rulesOf
     rules-are (Read o md) v = refl
-    rules-are (Store o md) v = tested-append (storeTests i md) _ v ∙ stored-is md _ v
-    rules-are (Change o md) v = tested-append (storeTests i md) _ v ∙ stored-is md _ v
+    rules-are (Store o md) v = tested-append (storeTests i md) _ Barred v ∙ stored-is md _ v
+    rules-are (Change o md) v = tested-append (storeTests i md) _ Barred v ∙ stored-is md _ v
     rules-are (Accumulator o) v = refl
     rules-are (Implied o) v = refl
     rules-are (Branch t o) v = refl

@@ -1,2 +1,1 @@
-pub mod Maps
-pub mod Rules
+pub mod Settled

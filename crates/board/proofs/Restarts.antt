@@ -14,7 +14,7 @@ use Rattle.rules.specs.declared.AppendAnswer.{AppendAnswer}
 use Rattle.rules.specs.declared.AppendAnswer.the-variants.{At, Full}
 use Rattle.rules.specs.Answers.{restartWord, appendWord}
 use Rattle.rules.specs.Restart.{recordAt, restart, appendAt, Grown}
-use Rattle.rules.proofs.Restarts.{answerOf, found-place, finds-last, Written, found-written}
+use Rattle.laws.proofs.Restarts.{answerOf, found-place, finds-last, Written, found-written}
 use Rattle.words.proofs.Laws.{numbered}
 use Rattle.board.proofs.wankitare_restart.Kinds as kinds
 use Rattle.board.proofs.wankitare_restart.Reads as reads

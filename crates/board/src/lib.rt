@@ -10,8 +10,8 @@ ghost use Rattle.rules.specs.Bus.{images};
 ghost use Rattle.rules.specs.Step.{step};
 ghost use Rattle.rules.specs.Run.{runOf};
 ghost use Rattle.rules.specs.Restart.{restart, appendAt};
-ghost use Rattle.rules.specs.Admission.{admit};
-ghost use Rattle.rules.specs.Safety.{Safe, PlaysOut};
+ghost use Rattle.admission_rules.specs.Admission.{admit};
+ghost use Rattle.admission_rules.specs.Safety.{Safe, PlaysOut};
 ghost use Rattle.step.specs.Parts.{left};
 ghost use Rattle.run.specs.Words.{worded};
 

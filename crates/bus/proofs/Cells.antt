@@ -13,9 +13,10 @@ use Rattle.rules.specs.Basics.{if_then_else_, at}
 use Rattle.rules.specs.Cycles.{Bank}
 use Rattle.rules.specs.Bus.{World, world, images, Cell, first, second, byte, held, kept, isProtected, imageAt, cellOf, look, stored, bytesOf}
 use Rattle.rules.specs.Record.{recordOf}
-use Rattle.rules.proofs.Tests.{if-case}
+use Rattle.laws.proofs.Tests.{if-case}
 use lib.Seq.{sets}
-use Rattle.bus.specs.Goes.{moved, busAfter, Writes}
+use Rattle.bus.specs.Goes.{busAfter, Writes}
+use Rattle.laws.specs.States.{moved}
 use Rattle.bus.proofs.Laws.{writes}
 use Rattle.wiring.specs.declared.Wiring.{Wiring}
 use Rattle.wiring.specs.Wiring.{plainOf, baseOf, Wired, Stands, Part, the6502, the6508, the6509}

@@ -8,12 +8,13 @@ use lib.Seq.{sets}
 use Rattle.rules.specs.declared.Bus.{Bus}
 use Rattle.rules.specs.Cycles.{Bank, Cycles, done, read, write, _>>=_, Access, run}
 use Rattle.rules.specs.Bus.{world, images, look, stored, selected, board, bytesOf, listOf}
-use Rattle.rules.proofs.Cycles.{run-bind}
-use Rattle.rules.proofs.Lists.{sets-append}
+use Rattle.laws.proofs.Cycles.{run-bind}
+use Rattle.laws.proofs.Lists.{sets-append}
 use Rattle.rules.specs.declared.Cpu.{Cpu}
 use Rattle.rules.specs.declared.State.{State}
 use Rattle.rules.specs.Record.{recordOf}
-use Rattle.bus.specs.Goes.{Goes, Does, moved}
+use Rattle.bus.specs.Goes.{Goes, Does}
+use Rattle.laws.specs.States.{moved}
 
 list-append : (xs ys : List Access) → listOf (xs ++ ys) ≡ listOf xs ++ listOf ys
 unfolding listOf

@@ -10,6 +10,7 @@ use Rattle.rules.specs.declared.State.{State}
 use Rattle.rules.specs.Cycles.{Bank, Cycles, done, write, Access, run}
 use Rattle.rules.specs.Bus.{world, images, stored, board, listOf}
 use Rattle.rules.specs.Record.{recordOf}
+use Rattle.laws.specs.States.{moved}
 
 -- t, begun at access k with bus u, image i and list l, ends with a at access n with bus u′, image i′ and list l′
 pub record Goes {A : Type 0} (t : Cycles A) (k : ℕ) (u : Bus) (i l : List ℕ) (a : A) (n : ℕ) (u′ : Bus) (i′ l′ : List ℕ) : Type 0 where
@@ -17,10 +18,6 @@ pub record Goes {A : Type 0} (t : Cycles A) (k : ℕ) (u : Bus) (i l : List ℕ)
   pub ran : run (board images) t (world u i) ≡ record { value = a; after = world u′ i′; list = made }
   pub count : k + length made ≡ n
   pub listed : sets l (8 * k) (listOf made) ≡ l′
-
--- a state with other registers, and another bus
-abbrev pub moved : Cpu → Bus → State → State
-moved c u s = record { cpu = c; bus = u; nmi = s .nmi; cycles = s .cycles }
 
 -- what a write leaves of the bus
 abbrev pub busAfter : Bank → ℕ → ℕ → Bus → List ℕ → Bus

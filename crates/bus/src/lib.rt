@@ -12,7 +12,8 @@ ghost use Rattle.rules.specs.Bus.{world, images, look, narrow};
 ghost use Rattle.rules.specs.Record.{recordOf};
 ghost use Rattle.wiring.specs.Wiring.{Wired, Stands, Ready};
 ghost use Rattle.bus.specs.Cells.{lowHeld, registered, putAt};
-ghost use Rattle.bus.specs.Goes.{Goes, moved, Writes};
+ghost use Rattle.bus.specs.Goes.{Goes, Writes};
+ghost use Rattle.laws.specs.States.{moved};
 
 // The 6508's port: "the output bit where direction is 1, the pin where it is 0".
 fn port(direction: u8, output: u8, pins: u8) -> u8

@@ -10,16 +10,11 @@ use Rattle.rules.specs.Answers.{Test, tested}
 use Rattle.rules.specs.Bus.{images}
 use Rattle.rules.specs.Basics.{at}
 use Rattle.rules.specs.Step.{banksIn, recordTests}
-use Rattle.rules.proofs.Tests.{tested-case, tested-both}
+use Rattle.laws.proofs.Tests.{tested-case, tested-both, tested-append}
 use Rattle.checks.specs.declared.Checked.{Checked}
 use Rattle.checks.specs.declared.Checked.the-variants.{Banks, Refused}
 use Rattle.checks.specs.Checks.{fitOf, Fits}
 use Rattle.checks.proofs.Laws.{some-banks}
-
--- tests in order, and more of them
-tested-after : {A : Type 0} (ts us : List Test) (refuse : Refusal → A) (a : A) → tested (ts ++ us) refuse a ≡ tested ts refuse (tested us refuse a)
-tested-after [] us refuse a = refl
-tested-after (t ∷ ts) us refuse a = rw (tested-after ts us refuse a)
 
 module _ (r m : List ℕ) where
   pub fits : (k : ℕ) → Banks k ≡ fitOf r m → Fits r m k
@@ -40,7 +35,7 @@ module _ (r m : List ℕ) where
   pub unfit : {A : Type 0} (us : List Test) (refuse : Refusal → A) (a : A) (e : Refusal) → Refused e ≡ fitOf r m →
       tested (recordTests images r m ++ us) refuse a ≡ refuse e
   unfit {A} us refuse a e h =
-      tested-after (recordTests images r m) us refuse a
+      tested-append (recordTests images r m) us refuse a
       ∙ tested-both (λ (x : Checked) (y : A). Refused e ≡ x → y ≡ refuse e) (recordTests images r m) Refused refuse (Banks (banksIn (length m))) (tested us refuse a)
       (λ d q. ap refuse (cc))
       (λ q. let z : _≡_ {A = ℕ} 0 1 = cc in absurd (omega arith))

@@ -1,21 +1,16 @@
--- What well-formed means beside P, the banks of an image, and what fits.
+-- The banks of an image, and what fits.
 use Prim.Native.Nat.{ℕ, _≤_}
 use mathlib.Core.Path.{_≡_}
-use mathlib.Core.Bool.{Bool, true, _&&_}
+use mathlib.Core.Bool.{true}
 use mathlib.Core.List.{List}
 use lib.ListN.{length}
 use Rattle.rules.specs.Basics.{if_then_else_, at}
 use Rattle.rules.specs.Answers.{tested}
 use Rattle.rules.specs.Bus.{images}
-use Rattle.rules.specs.Record.{partFits, registerFits, levelFits, pagesFit, wellFormed}
+use Rattle.rules.specs.Record.{wellFormed}
 use Rattle.rules.specs.Step.{imageFits, banksIn, recordTests}
 use Rattle.checks.specs.declared.Checked.{Checked}
 use Rattle.checks.specs.declared.Checked.the-variants.{Banks, Refused}
-
--- what a well-formed record says of its part
-abbrev pub restFits : ℕ → ℕ → ℕ → ℕ → ℕ → Bool
-restFits part first second level pages =
-    partFits part && registerFits part first && registerFits part second && levelFits part level && pagesFit part pages
 
 -- the banks of an image, and 0 where its length is wrong
 abbrev pub banksFor : ℕ → ℕ → ℕ

@@ -8,7 +8,7 @@ use rules::Mode;
 use rules::Reading;
 use rules::Storing;
 ghost use mathlib.Core.Path.{_≡_};
-ghost use Rattle.table.specs.Numbers.{readingOf, storingOf, changingOf, internalOf, conditionOf, modeOf, singleOf, withMode, made, fetched};
+ghost use Rattle.table.specs.Numbers.{readingOf, storingOf, changingOf, internalOf, conditionOf, modeOf, singleOf, withMode, made};
 
 fn reading(n: u8) -> Reading
     ensures { λ r. ⌜ r ≡ readingOf n ⌝ }
@@ -156,32 +156,4 @@ pub fn instruction_of(entry: u8, low: u8, high: u8) -> Instruction
         return Instruction::Branch(condition(entry - table::BPL), low);
     }
     single(entry - table::JMP, low, high)
-}
-
-// How many bytes are fetched before the instruction's own accesses: the opcode and the operand, of JSR its low byte only.
-pub fn fetched(entry: u8) -> u16
-    ensures { λ r. ⌜ r ≡ fetched entry ⌝ }
-{
-    if entry < table::A {
-        return 2;
-    }
-    if entry < table::IX {
-        return 3;
-    }
-    if entry < table::ASL_A {
-        return 2;
-    }
-    if entry < table::BPL {
-        return 1;
-    }
-    if entry < table::JMP {
-        return 2;
-    }
-    if entry < table::JSR {
-        return 3;
-    }
-    if entry == table::JSR {
-        return 2;
-    }
-    1
 }

@@ -15,7 +15,8 @@ use Rattle.rules.specs.Record.{registerFits}
 use Rattle.wiring.specs.declared.Wiring.{Wiring}
 use Rattle.wiring.specs.Wiring.{Wired, Stands, Sound, Part, the6502, the6508, the6509}
 use Rattle.bus.proofs.Laws.{counted}
-use Rattle.bus.specs.Goes.{Goes, Does, Writes, moved, busAfter}
+use Rattle.bus.specs.Goes.{Goes, Does, Writes, busAfter}
+use Rattle.laws.specs.States.{moved}
 
 narrow-back : (part v : ℕ) → Part part → registerFits part v ≡ true → narrow part v ≡ v
 narrow-back part v (the6502 e) h = rw e

@@ -12,9 +12,11 @@ use Rattle.rules.specs.Cycles.{execution, read, done, _>>=_}
 use Rattle.rules.specs.Opcodes.{Entry, undefined, alone, byte, word, late, decode, isDefined, ofInstruction}
 use Rattle.rules.specs.Table.{table}
 use Rattle.rules.specs.Operations.{withPc, perform, next, operate}
-use Rattle.table.specs.Numbers.{numberOf, made, fetchedBy}
-use Rattle.table.proofs.Decodes.{at-opcode, made-is}
-use Rattle.bus.specs.Goes.{Goes, Does, moved}
+use Rattle.laws.proofs.Entries.{fetchedBy}
+use Rattle.table.specs.Numbers.{numberOf, made}
+use Rattle.table.proofs.Decodes.{everywhere, made-is}
+use Rattle.bus.specs.Goes.{Goes, Does}
+use Rattle.laws.specs.States.{moved}
 use Rattle.bus.proofs.Laws.{read-does}
 use Rattle.processor.specs.Begun.{begun, short}
 
@@ -37,9 +39,6 @@ begins low high = refl
 shorts : (low high : ℕ) → map (λ (e : Entry). short (instructionOf low high e)) table ≡ map (λ (e : Entry). true) table
 unfolding table
 shorts low high = refl
-
-everywhere : {A : Type 0} (f g : Entry → A) → map f table ≡ map g table → (n : ℕ) → n < 256 → f (decode n) ≡ g (decode n)
-everywhere f g e n h = sym (at-opcode f (f undefined) n h) ∙ (rw e (at-opcode g (f undefined) n h))
 
 pub begun-is : (n low high : ℕ) → n < 256 → begun (made (numberOf (decode n)) low high) ≡ begunBy (decode n)
 begun-is n low high h = ap begun (made-is n low high h) ∙ everywhere (λ (e : Entry). begun (instructionOf low high e)) begunBy (begins low high) n h

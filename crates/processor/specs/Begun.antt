@@ -5,7 +5,7 @@ use lib.Dec.{leb}
 use Rattle.rules.specs.declared.Instruction.{Instruction}
 use Rattle.rules.specs.declared.Instruction.the-variants.{Read, Store, Change, Accumulator, Implied, Branch, Jump, JumpIndirect, Jsr, Rts, Rti, Brk, Php, Plp, Pha, Pla, Txs, Cli}
 use Rattle.addressing.specs.Start.{fetchedOf}
-use Rattle.rules.proofs.Lengths.{placeMost}
+use Rattle.laws.proofs.Lengths.{placeMost}
 
 -- the opcode's, and the operand's or the one at PC+1
 abbrev pub begun : Instruction → ℕ

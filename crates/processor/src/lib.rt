@@ -28,7 +28,7 @@ ghost use Rattle.wiring.specs.Wiring.{Stands, Ready};
 ghost use Rattle.bus.specs.Goes.{Goes, Does};
 ghost use Rattle.stack.specs.Words.{wordAt};
 ghost use Rattle.addressing.specs.Start.{fetchedOf};
-ghost use Rattle.rules.proofs.Lengths.{placeMost};
+ghost use Rattle.laws.proofs.Lengths.{placeMost};
 ghost use Rattle.processor.specs.Pulled.{pulledAt};
 ghost use Rattle.processor.specs.Rewritten.{rewritten};
 ghost use Rattle.processor.specs.Begun.{begun, short};
@@ -428,7 +428,7 @@ pub fn instruction(
     requires { ⌜ ((entry ≡ numberOf (decode opcode)) × (isDefined (decode opcode) ≡ true)) × Ready w (length (now state)) (length (now image)) (length (now list)) ⌝ }
     ensures { λ r. ⌜ (r ≤ 7) × ((s : State) → Stands execution s (now (state .entry)) w → pc ≡ s .cpu .pc → Does (operate (decode opcode) (next (s .cpu))) 1 s (now (image .entry)) (now (list .entry)) r (now (state .exit)) (now (image .exit)) (now (list .exit))) ⌝ }
 {
-    let size = decode::fetched(entry);
+    let size = table::fetched(entry);
     let one = std::num::wrapping_add_u16(pc, 1);
     let two = std::num::wrapping_add_u16(pc, 2);
     let after = std::num::wrapping_add_u16(pc, size);

@@ -18,7 +18,7 @@ pub fn restart(file: &[u8]) -> RestartAnswer
         return RestartAnswer::NotFound(Refusal::FileLength);
     }
     let at = size / 16 * 16 - 16;
-    if checks::well_formed(&file[at..at + 16]) {
+    if formed::well_formed(&file[at..at + 16]) {
         return RestartAnswer::Found {
             at: at as u16,
             tail: (size % 16) as u8,

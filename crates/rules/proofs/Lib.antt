@@ -1,27 +1,5 @@
--- The laws of the definitions in specs/, and the examples that were computed.
-pub mod Tests
-pub mod Lists
-pub mod Cycles
+-- The examples that were computed, and that the table has the opcodes of the rows.
 pub mod Table
-pub mod Lengths
-pub mod Records
-pub mod Steps
-pub mod Runs
-pub mod Restarts
-pub mod Admissions
-pub mod Stacks
-pub mod Marks
-pub mod Ends
-pub mod Calm
-pub mod Places
-pub mod Plain
-pub mod Shapes
-pub mod Performs
-pub mod Events
-pub mod Safe
-pub mod SafeRuns
-pub mod Images
 pub mod Opened
 pub mod Examples
 pub mod Cases
-pub mod Texts

@@ -10,8 +10,7 @@ use Rattle.rules.specs.Record.{stateOf, recordOf, wellFormed}
 use Rattle.rules.specs.Step.{finished, step}
 use Rattle.rules.specs.Run.{play, runOf}
 use Rattle.rules.specs.Restart.{restart, appendAt}
-use Rattle.rules.specs.Admission.{formTests, vectorsHold, rulesOf, ruleTests, admit}
 
 unfoldable pub opened : Unit {0}
-unfolding _>>=_ run lowSum highSum lowDifference highDifference changed decode pointer zeroIndexed indexed loadIndexed load place used inside taken branchTo enter push pull jsr rts rti brk jumpIndirect perform operate instruction eventOf interrupt reset cyclesOf selected imageAt cellOf resetBus look stored listOf stateOf recordOf wellFormed finished step play runOf restart appendAt formTests vectorsHold rulesOf ruleTests admit
+unfolding _>>=_ run lowSum highSum lowDifference highDifference changed decode pointer zeroIndexed indexed loadIndexed load place used inside taken branchTo enter push pull jsr rts rti brk jumpIndirect perform operate instruction eventOf interrupt reset cyclesOf selected imageAt cellOf resetBus look stored listOf stateOf recordOf wellFormed finished step play runOf restart appendAt
 opened = tt

@@ -22,7 +22,4 @@ pub mod Step
 pub mod Run
 -- "The state record": the restart file
 pub mod Restart
--- "Admission"
-pub mod Admission
-pub mod Safety
 pub mod Text

@@ -16,7 +16,7 @@ use Rattle.rules.specs.Answers.{packed, refusalWord, stepWord}
 use Rattle.rules.specs.Bus.{images}
 use Rattle.rules.specs.Step.{Outcome, refused, stepTests, step}
 use Rattle.rules.specs.Run.{start, goesOn, play, runOf}
-use Rattle.rules.proofs.Steps.{lawful}
+use Rattle.laws.proofs.Steps.{lawful}
 use Rattle.words.proofs.Laws.{numbered}
 use Rattle.checks.specs.declared.Checked.{Checked}
 use Rattle.checks.specs.declared.Checked.the-variants as checked

@@ -13,8 +13,8 @@ use Rattle.rules.specs.Basics.{at}
 use Rattle.rules.specs.Bus.{images}
 use Rattle.rules.specs.Step.{Outcome, step}
 use Rattle.rules.specs.Run.{goesOn, play}
-use Rattle.rules.proofs.Lists.{rest-lent}
-use Rattle.rules.proofs.Steps.{Done, lawful}
+use Rattle.laws.proofs.Lists.{rest-lent}
+use Rattle.laws.proofs.Steps.{Done, lawful}
 use Rattle.checks.specs.Checks.{Fits}
 use Rattle.step.specs.Parts.{left}
 use Rattle.run.specs.Plays.{standing}

@@ -5,7 +5,7 @@ use Prim.Native.Nat.{ℕ}
 use Rattle.rules.specs.declared.Cpu.{Cpu}
 use Rattle.rules.specs.declared.State.{State}
 use Rattle.rules.specs.Record.{recordOf}
-use Rattle.bus.specs.Goes.{moved}
+use Rattle.laws.specs.States.{moved}
 
 -- bytes r that stand for a state become bytes r′ that stand for the same with other registers
 abbrev pub Makes : (Cpu → Cpu) → List ℕ → List ℕ → Type 0

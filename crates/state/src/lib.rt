@@ -8,7 +8,7 @@ ghost use lib.ListN.{length, set};
 ghost use Rattle.rules.specs.declared.State.{State};
 ghost use Rattle.rules.specs.Record.{recordOf};
 ghost use Rattle.rules.specs.Flags.{nz};
-ghost use Rattle.bus.specs.Goes.{moved};
+ghost use Rattle.laws.specs.States.{moved};
 ghost use Rattle.rules.specs.Operations.{withP, withS, withPc, withResult};
 ghost use Rattle.state.specs.Makes.{Makes};
 

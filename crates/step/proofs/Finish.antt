@@ -21,10 +21,11 @@ use Rattle.rules.specs.Bus.{is6502, is6508, is6509, images, listOf}
 use Rattle.rules.specs.Record.{stateOf, recordOf, wellFormed, partFits}
 use Rattle.rules.specs.Step.{busAt, front, ranOf, finished, canStep, linesFit, stateNow, eventNow, step}
 use Rattle.rules.specs.Basics.{at}
-use Rattle.rules.proofs.Steps.{list-length}
-use Rattle.rules.proofs.Records.{formed, written-again}
+use Rattle.laws.proofs.Steps.{list-length}
+use Rattle.laws.proofs.Records.{formed, written-again}
 use Rattle.wiring.specs.Wiring.{Part, the6502, the6508, the6509}
-use Rattle.bus.specs.Goes.{Does, moved}
+use Rattle.bus.specs.Goes.{Does}
+use Rattle.laws.specs.States.{moved}
 use Rattle.step.specs.Parts.{vectorOf, closed, left, advanced, Begins}
 use Rattle.checks.specs.Checks.{Fits}
 

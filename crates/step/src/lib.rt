@@ -20,7 +20,8 @@ ghost use Rattle.rules.specs.Step.{busAt, ranOf, finished, step};
 ghost use Rattle.table.specs.Numbers.{numberOf};
 ghost use Rattle.wiring.specs.Wiring.{Sound, Stands, Ready};
 ghost use Rattle.checks.specs.Checks.{Fits};
-ghost use Rattle.bus.specs.Goes.{moved, Does};
+ghost use Rattle.bus.specs.Goes.{Does};
+ghost use Rattle.laws.specs.States.{moved};
 ghost use Rattle.step.specs.Parts.{vectorOf, closed, resetOf, left, advanced, Begins};
 
 // "IRQ with I = 0"

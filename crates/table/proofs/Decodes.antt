@@ -1,17 +1,18 @@
 -- The numbers keep what the opcodes say: each law is one computed claim on the table of 256.
 use Prim.Native.Nat.{ℕ, _<_}
 use mathlib.Core.Path.{_≡_, refl, sym, ap, _∙_}
-use mathlib.Core.Bool.{true, not, false≢true}
+use mathlib.Core.Bool.{true, not}
 use mathlib.Core.List.{map}
 use lib.Dec.{eqb}
 use lib.ListN.{length, getD}
 use Rattle.rules.specs.declared.Instruction.{Instruction}
 use Rattle.rules.specs.declared.Instruction.the-variants.{Cli}
 use Rattle.rules.specs.Basics.{if_then_else_}
-use Rattle.rules.specs.Opcodes.{Entry, undefined, alone, byte, word, late, decode, sizeOf, isDefined, ofInstruction}
+use Rattle.rules.specs.Opcodes.{Entry, undefined, decode, sizeOf, isDefined, ofInstruction}
 use Rattle.rules.specs.Table.{table}
 use Rattle.rules.proofs.Table.{table-at}
-use Rattle.table.specs.Numbers.{number, numberOf, entries, made, fetched, fetchedBy}
+use Rattle.laws.proofs.Entries.{fetchedBy, of-instruction}
+use Rattle.table.specs.Numbers.{number, numberOf, entries, made, fetched}
 use Rattle.table.proofs.Lists.{at-map}
 
 -- a list made of the table's entries has at n what is made of opcode n
@@ -23,7 +24,8 @@ pub entries-length : length entries ≡ 256
 unfolding table
 entries-length = refl
 
-everywhere : {A : Type 0} (f g : Entry → A) → map f table ≡ map g table → (n : ℕ) → n < 256 → f (decode n) ≡ g (decode n)
+-- so a claim on all entries is one on each opcode
+pub everywhere : {A : Type 0} (f g : Entry → A) → map f table ≡ map g table → (n : ℕ) → n < 256 → f (decode n) ≡ g (decode n)
 everywhere f g e n h = sym (at-opcode f (f undefined) n h) ∙ (rw e (at-opcode g (f undefined) n h))
 
 module _ (low high : ℕ) where
@@ -66,15 +68,7 @@ sized-is n h = everywhere sizedBy sizeOf sizes n h
 pub defined-is : (n : ℕ) → n < 256 → eqb (numberOf (decode n)) 255 ≡ not (isDefined (decode n))
 defined-is n h = everywhere (λ (e : Entry). eqb (numberOf e) 255) (λ (e : Entry). not (isDefined e)) defines n h
 
-inner : {A : Type 0} (f : Instruction → A) (x : A) (e : Entry) (low high : ℕ) → isDefined e ≡ true →
-    f (byEntry low high e) ≡ ofInstruction f x e low high
-inner f x undefined low high h = absurd (false≢true h)
-inner f x (alone i) low high h = refl
-inner f x (byte g) low high h = refl
-inner f x (word g) low high h = refl
-inner f x (late g) low high h = refl
-
 -- what the rules say of a defined opcode's instruction, whatever they say of the others
 pub made-of : {A : Type 0} (f : Instruction → A) (x : A) (n low high : ℕ) → n < 256 → isDefined (decode n) ≡ true →
     f (made (numberOf (decode n)) low high) ≡ ofInstruction f x (decode n) low high
-made-of f x n low high h d = ap f (made-is n low high h) ∙ inner f x (decode n) low high d
+made-of f x n low high h d = ap f (made-is n low high h) ∙ sym (of-instruction f x Cli (decode n) low high d)

@@ -190,11 +190,3 @@ fetched n =
     else if ltb n 230 then 1
     else if ltb n 238 then 2
     else if ltb n 240 then 3 else if eqb n 240 then 2 else 1
-
--- the same of an entry: the opcode, and the operand; "JSR: low, .., then high operand"
-abbrev pub fetchedBy : Entry → ℕ
-fetchedBy undefined = 1
-fetchedBy (alone i) = 1
-fetchedBy (byte f) = 2
-fetchedBy (word f) = 3
-fetchedBy (late f) = 2

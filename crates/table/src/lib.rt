@@ -1,4 +1,4 @@
-// The table of 256 opcodes.
+// The table of 256 opcodes, and how many bytes an entry fetches.
 //
 // An entry is one byte: the instruction apart from its operand. Of the 21 operations that have a mode, it is 21 times the mode and the
 // operation, so that the modes with an address of two bytes lie side by side; the instructions without a mode follow, one number each.
@@ -6,7 +6,7 @@
 
 ghost use mathlib.Core.Path.{_≡_};
 ghost use Rattle.rules.specs.Opcodes.{decode};
-ghost use Rattle.table.specs.Numbers.{numberOf, entries};
+ghost use Rattle.table.specs.Numbers.{numberOf, entries, fetched};
 
 // What reads a byte.
 const ORA: u8 = 0;
@@ -65,13 +65,13 @@ const ZX: u8 = 42;
 
 const ZY: u8 = 63;
 
-pub const A: u8 = 84;
+const A: u8 = 84;
 
 const AX: u8 = 105;
 
 const AY: u8 = 126;
 
-pub const IX: u8 = 147;
+const IX: u8 = 147;
 
 const IY: u8 = 168;
 
@@ -451,4 +451,32 @@ pub fn entries() -> [u8; 256]
     ensures { λ r. ⌜ r ≡ entries ⌝ }
 {
     TABLE
+}
+
+// How many bytes are fetched before the instruction's own accesses: the opcode and the operand, of JSR its low byte only.
+pub fn fetched(entry: u8) -> u16
+    ensures { λ r. ⌜ r ≡ fetched entry ⌝ }
+{
+    if entry < A {
+        return 2;
+    }
+    if entry < IX {
+        return 3;
+    }
+    if entry < ASL_A {
+        return 2;
+    }
+    if entry < BPL {
+        return 1;
+    }
+    if entry < JMP {
+        return 2;
+    }
+    if entry < JSR {
+        return 3;
+    }
+    if entry == JSR {
+        return 2;
+    }
+    1
 }

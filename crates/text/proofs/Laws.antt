@@ -7,7 +7,7 @@ use mathlib.Core.List.{List, [], _∷_, _++_}
 use lib.ListN.{length, take, set, length-append}
 use lib.Seq.{sets, take-suc, length-take-le}
 use Rattle.rules.specs.Basics.{at}
-use Rattle.rules.proofs.Lists.{sets-append}
+use Rattle.laws.proofs.Lists.{sets-append}
 use Rattle.rules.specs.Text.{hex, each, accessLine, lineOf, bytesText, recordLine}
 
 -- one element more of a piece

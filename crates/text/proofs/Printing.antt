@@ -13,8 +13,8 @@ use Rattle.rules.specs.Basics.{at}
 use Rattle.rules.specs.Bus.{images}
 use Rattle.rules.specs.Record.{wellFormed}
 use Rattle.rules.specs.Step.{front, step}
-use Rattle.rules.proofs.Lists.{rest-lent}
-use Rattle.rules.proofs.Steps.{lawful}
+use Rattle.laws.proofs.Lists.{rest-lent}
+use Rattle.laws.proofs.Steps.{lawful}
 use Rattle.checks.specs.Checks.{Fits}
 use Rattle.step.specs.Parts.{left}
 use Rattle.rules.specs.Text.{textOf, refusalLine, stepText, printed}

@@ -14,7 +14,7 @@ use Rattle.rules.specs.Basics.{if_then_else_}
 use Rattle.rules.specs.Step.{front}
 use Rattle.rules.specs.Text.{digit, each, lineOf, numberLine, countLine, recordLine, stepText}
 use Rattle.text.specs.Print.{Shows}
-use Rattle.rules.proofs.Lists.{sets-append}
+use Rattle.laws.proofs.Lists.{sets-append}
 use Rattle.text.proofs.Laws.{each-length, line-length, record-length}
 
 -- "These fill the buffer's front; later bytes stay."

@@ -181,7 +181,7 @@ pub fn print(input: &mut [u8], text: &mut [u8; 123]) -> usize
         return put_refusal(text, Refusal::RecordLength);
     }
     let mut state = record_of(input);
-    if !checks::well_formed(&state) {
+    if !formed::well_formed(&state) {
         return put_refusal(text, Refusal::Malformed);
     }
     if input.len() != 65554 {

@@ -3,9 +3,6 @@ use mathlib.Core.Path.{refl}
 use Rattle.checks.proofs as its
 use Rattle.unique.proofs.General.{Unique, answer}
 
-pub well-formed : Unique its.well_formed.Kinds.ps its.well_formed.Kinds.r its.well_formed.Reads.Post
-well-formed κs a x y = answer refl
-
 pub fit : Unique its.fit.Kinds.ps its.fit.Kinds.r its.fit.Reads.Post
 fit κs a x y = answer refl
 

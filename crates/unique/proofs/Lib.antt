@@ -7,10 +7,13 @@ pub mod Bytes
 pub mod Checks
 pub mod Decode
 pub mod Flags
+pub mod Formed
 pub mod General
+pub mod InstructionRules
 pub mod Internal
 pub mod Interrupts
 pub mod Listing
+pub mod Marks
 pub mod Operations
 pub mod Processor
 pub mod Relations

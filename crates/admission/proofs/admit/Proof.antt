@@ -1,6 +1,6 @@
 use mathlib.Core.Path.{sym, _∙_}
-use Rattle.rules.proofs.Safe.{demand3}
-use Rattle.rules.proofs.SafeRuns.{plays-out}
+use Rattle.admission_rules.proofs.Safe.{demand3}
+use Rattle.admission_rules.proofs.SafeRuns.{plays-out}
 use borrow.Author.Needs.{needs}
 use Rattle.admission.proofs.admit.Statement.{statement}
 use Rattle.admission.proofs.admit.Tie as tie

@@ -5,7 +5,7 @@ use mathlib.Core.Path.{refl, sym, _∙_}
 use borrow.Author.Tests.{not-true, not-false}
 use denote.Ref.{now}
 use Rattle.rules.specs.Bus.{images}
-use Rattle.rules.specs.Admission.{marksIn, ruleTests}
+use Rattle.admission_rules.specs.Admission.{marksIn, ruleTests}
 use Rattle.admission.proofs.Judged.{no-record, Passed, comes-to, Led, leads-on, leads-astray, all-led}
 use borrow.Author.Needs.{needs}
 use Rattle.admission.proofs.judge.Statement.{statement}

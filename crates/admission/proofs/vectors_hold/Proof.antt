@@ -1,5 +1,5 @@
-use Rattle.rules.specs.Admission.{vectorsHold}
-use Rattle.admission.proofs.Maps.{rooms}
+use Rattle.admission_rules.specs.Admission.{vectorsHold}
+use Rattle.admission.proofs.Rooms.{rooms}
 use borrow.Author.Needs.{needs}
 use Rattle.admission.proofs.vectors_hold.Statement.{statement}
 use Rattle.admission.proofs.vectors_hold.Tie as tie

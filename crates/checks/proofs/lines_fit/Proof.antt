@@ -1,5 +1,5 @@
 use mathlib.Core.Path.{sym}
-use Rattle.checks.proofs.Laws.{and-true}
+use Rattle.laws.proofs.Tests.{and-true}
 use borrow.Author.Tests.{lt-ltb, le-ltb, ne-eqb}
 use Rattle.checks.proofs.lines_fit.Statement.{statement}
 use Rattle.checks.proofs.lines_fit.Tie as tie

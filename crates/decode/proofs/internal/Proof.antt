@@ -1,6 +1,6 @@
 use Rattle.rules.specs.declared.Internal.the-variants.{Nop}
 use Rattle.table.specs.Numbers.{internals}
-use Rattle.decode.proofs.Lists.{last}
+use Rattle.table.proofs.Lists.{last}
 use borrow.Author.Needs.{needs}
 use Rattle.decode.proofs.internal.Statement.{statement}
 use Rattle.decode.proofs.internal.Tie as tie

@@ -1,6 +1,6 @@
 use Rattle.rules.specs.declared.Mode.the-variants.{IndirectBankY}
 use Rattle.table.specs.Numbers.{modes}
-use Rattle.decode.proofs.Lists.{last}
+use Rattle.table.proofs.Lists.{last}
 use borrow.Author.Needs.{needs}
 use Rattle.decode.proofs.mode.Statement.{statement}
 use Rattle.decode.proofs.mode.Tie as tie

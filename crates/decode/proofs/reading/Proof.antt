@@ -1,6 +1,6 @@
 use Rattle.rules.specs.declared.Reading.the-variants.{Bit}
 use Rattle.table.specs.Numbers.{readings}
-use Rattle.decode.proofs.Lists.{last}
+use Rattle.table.proofs.Lists.{last}
 use borrow.Author.Needs.{needs}
 use Rattle.decode.proofs.reading.Statement.{statement}
 use Rattle.decode.proofs.reading.Tie as tie

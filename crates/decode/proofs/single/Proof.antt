@@ -1,6 +1,6 @@
 use Rattle.rules.specs.declared.Instruction.the-variants.{Cli}
 use Rattle.table.specs.Numbers.{singles}
-use Rattle.decode.proofs.Lists.{last}
+use Rattle.table.proofs.Lists.{last}
 use borrow.Author.Needs.{needs}
 use Rattle.decode.proofs.single.Statement.{statement}
 use Rattle.decode.proofs.single.Tie as tie

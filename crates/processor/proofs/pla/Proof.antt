@@ -2,7 +2,7 @@ use Rattle.bus.proofs.Laws.{does, ended, then-call}
 use Rattle.rules.specs.Cycles.{done, _>>=_}
 use Rattle.rules.specs.Basics.{sum8}
 use Rattle.rules.specs.Operations.{perform, pull, toA, withS}
-use Rattle.bus.specs.Goes.{moved}
+use Rattle.laws.specs.States.{moved}
 use Rattle.rules.specs.Record.{recordOf}
 use borrow.Author.Needs.{needs}
 use Rattle.state.proofs.Registers.{s-of}

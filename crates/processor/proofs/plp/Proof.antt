@@ -3,7 +3,7 @@ use Rattle.rules.specs.Cycles.{done, _>>=_}
 use Rattle.rules.specs.Basics.{sum8}
 use Rattle.rules.specs.Flags.{flagsOf}
 use Rattle.rules.specs.Operations.{perform, pull, withP, withS}
-use Rattle.bus.specs.Goes.{moved}
+use Rattle.laws.specs.States.{moved}
 use borrow.Author.Needs.{needs}
 use Rattle.state.proofs.Registers.{s-of}
 use Rattle.processor.proofs.plp.Statement.{statement}

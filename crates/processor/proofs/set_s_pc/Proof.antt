@@ -1,5 +1,5 @@
 use Rattle.rules.specs.Operations.{withS}
-use Rattle.bus.specs.Goes.{moved}
+use Rattle.laws.specs.States.{moved}
 use borrow.Author.Needs.{needs}
 use Rattle.processor.proofs.set_s_pc.Statement.{statement}
 use Rattle.processor.proofs.set_s_pc.Tie as tie

@@ -6,7 +6,7 @@ use lib.ListN.{length, drop}
 use denote.Ref.{now}
 use Rattle.rules.specs.Bus.{images}
 use Rattle.rules.specs.Run.{start, play}
-use Rattle.rules.proofs.Lists.{rest-back}
+use Rattle.laws.proofs.Lists.{rest-back}
 use Rattle.checks.specs.Checks.{Fits}
 use Rattle.run.specs.Plays.{standing}
 use Rattle.run.specs.Words.{worded, tallied}

@@ -1,6 +1,6 @@
 use Rattle.rules.specs.Record.{recordOf}
 use mathlib.Core.Path.{_∙_}
-use Rattle.rules.proofs.Records.{flags-again}
+use Rattle.laws.proofs.Records.{flags-again}
 use borrow.Author.Needs.{needs}
 use Rattle.state.proofs.flags_of.Statement.{statement}
 use Rattle.state.proofs.flags_of.Tie as tie

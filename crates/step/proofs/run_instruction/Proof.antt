@@ -2,7 +2,7 @@ use native.Mathlib.Omega.{arith}
 use mathlib.Core.Path.{refl}
 use Rattle.step.proofs.Finish.{finishes, undefined-at, defined-at}
 use Rattle.rules.specs.Interrupts.{execute, cyclesOf}
-use Rattle.bus.specs.Goes.{moved}
+use Rattle.laws.specs.States.{moved}
 use Rattle.rules.specs.Cycles.{execution}
 use borrow.Author.Needs.{needs}
 use Rattle.step.proofs.run_instruction.Statement.{statement}

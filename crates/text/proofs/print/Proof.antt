@@ -1,7 +1,7 @@
 use denote.Ref.{now}
 use mathlib.Core.Path.{sym, _∙_}
 use borrow.Author.Tests.{not-true, not-false}
-use Rattle.rules.proofs.Lists.{rest-lent, rest-back}
+use Rattle.laws.proofs.Lists.{rest-lent, rest-back}
 use Rattle.text.proofs.Printing.{print-short, print-malformed, print-length, print-step, one-bank, few}
 use borrow.Author.Needs.{needs}
 use Rattle.text.proofs.print.Statement.{statement}

@@ -1,0 +1,94 @@
+-- Cases of admission, each of a sentence that could be misread.
+use Prim.Native.Nat.{ℕ, _+_, _*_}
+use mathlib.Core.Path.{_≡_, refl}
+use mathlib.Core.Bool.{Bool}
+use mathlib.Core.List.{List, [], _∷_, _++_}
+use lib.ListN.{set}
+use Rattle.rules.specs.Bus.{Chart, charts}
+use Rattle.rules.specs.Answers.{verdictWord}
+use Rattle.rules.proofs.Opened.{opened}
+use Rattle.rules.proofs.Examples.{same, failing, zeros, _from_holds_}
+use Rattle.admission_rules.specs.Admission.{formTests, vectorsHold, rulesOf, ruleTests, admit}
+
+-- A firmware of page FF, with c = 1, and its map: main at FF00, a routine at FF20, a handler at FF30.
+
+-- an image of k banks, with the vectors FF00 and FF00 + h
+abbrev page : ℕ → ℕ → Chart
+page k h = zeros k from 0xFFFC holds (0x00 ∷ 0xFF ∷ h ∷ 0xFF ∷ [])
+
+abbrev firmware : ℕ → Chart
+firmware k =
+    page k 0x30
+    -- LDX #FF, TXS, JSR FF20, PHA, PLA, BEQ FF00, STA 0200, JMP FF00
+    from 0xFF00 holds (0xA2 ∷ 0xFF ∷ 0x9A ∷ 0x20 ∷ 0x20 ∷ 0xFF ∷ 0x48 ∷ 0x68 ∷ 0xF0 ∷ 0xF6 ∷ 0x8D ∷ 0x00 ∷ 0x02 ∷ 0x4C ∷ 0x00 ∷ 0xFF ∷ [])
+    -- PHP, PLA, INC 0200,X, RTS
+    from 0xFF20 holds (0x08 ∷ 0x68 ∷ 0xFE ∷ 0x00 ∷ 0x02 ∷ 0x60 ∷ [])
+    -- RTI
+    from 0xFF30 holds (0x40 ∷ [])
+
+abbrev mark : ℕ → ℕ → ℕ → ℕ → List ℕ
+mark low kind height need = low ∷ 0xFF ∷ kind ∷ height ∷ need ∷ 0 ∷ 0 ∷ 0 ∷ []
+
+abbrev marks : List ℕ
+marks =
+    mark 0x00 1 0 3 ++ mark 0x02 1 0 3 ++ mark 0x03 1 0 3 ++ mark 0x06 1 0 3 ++ mark 0x07 1 1 2 ++ mark 0x08 1 0 3 ++ mark 0x0A 1 0 3 ++
+    mark 0x0D 1 0 3 ++ mark 0x20 2 0 1 ++ mark 0x21 2 1 0 ++ mark 0x22 2 0 1 ++ mark 0x25 2 0 1 ++ mark 0x30 3 0 0
+
+abbrev judged : Chart → ℕ → List ℕ → ℕ
+judged m c map = verdictWord (admit charts m c map)
+
+-- with other bytes from FF00 + i on, and with byte j of mark i changed to v
+abbrev code : ℕ → List ℕ → ℕ
+code i bytes = judged (firmware 1 from 0xFF00 + i holds bytes) 1 marks
+
+abbrev marking : ℕ → ℕ → ℕ → ℕ
+marking i j v = judged (firmware 1) 1 (set marks (8 * i + j) v)
+
+-- refused by this number at this record
+abbrev number : ℕ → ℕ → ℕ
+number n i = n + 65536 * i
+
+-- "Admitted, c = 1: FF00 A2 FF 9A 58 4C 04 FF 40, vectors FF00 and FF07, map FF00 FF02 FF03 FF04 main, FF07 handler, all 0."
+abbrev paper : ℕ → ℕ → ℕ
+paper last need =
+    judged (page 1 0x07 from 0xFF00 holds (0xA2 ∷ 0xFF ∷ 0x9A ∷ 0x58 ∷ 0x4C ∷ 0x04 ∷ 0xFF ∷ last ∷ [])) 1
+    (mark 0x00 1 0 need ++ mark 0x02 1 0 need ++ mark 0x03 1 0 need ++ mark 0x04 1 0 need ++ mark 0x07 3 0 0)
+
+-- a handler at FF4C: its vector's low byte is a JMP at FFFE
+abbrev wraps : ℕ
+wraps =
+    judged (page 1 0x4C from 0xFF00 holds (0x4C ∷ 0x00 ∷ 0xFF ∷ []) from 0xFF4C holds (0x40 ∷ [])) 1 (mark 0x00 1 0 0 ++ mark 0x4C 3 0 0 ++ mark 0xFE 1 0 0)
+
+abbrev maps : List Bool
+maps =
+    -- 1 the document's: admitted; with 60 at FF07: 15, index 4; needs 253 and 0 pass, 254 and 0 don't
+    same (paper 0x40 0 ∷ paper 0x60 0 ∷ paper 0x40 253 ∷ paper 0x40 254 ∷ []) (0 ∷ number 15 4 ∷ 0 ∷ 12 ∷ [])
+    -- 2 the firmware above; 10: image length, c, map length
+    ∷ same (judged (firmware 1) 1 marks ∷ judged (firmware 2) 1 marks ∷ judged (firmware 1) 0 marks ∷ judged (firmware 1) 255 marks ∷ []) (0 ∷ 10 ∷ 10 ∷ 10 ∷ [])
+    ∷ same (judged (firmware 1) 1 [] ∷ judged (firmware 1) 1 (0 ∷ marks) ∷ judged (firmware 1) 254 marks ∷ []) (10 ∷ 10 ∷ 0 ∷ [])
+    -- 4 11: kind, zeros, ascending, before 12
+    ∷ same (marking 2 2 0 ∷ marking 2 2 4 ∷ marking 2 7 1 ∷ marking 2 0 0x02 ∷ marking 0 0 0x02 ∷ []) (number 11 2 ∷ number 11 2 ∷ number 11 2 ∷ number 11 2 ∷ number 11 1 ∷ [])
+    -- 5 12: the vectors' kinds and heights
+    ∷ same (marking 0 2 2 ∷ marking 0 3 1 ∷ marking 12 2 1 ∷ marking 12 3 1 ∷ []) (12 ∷ 12 ∷ 12 ∷ 12 ∷ [])
+    -- 6 13: undefined, BRK, PLP, JMP (a), 81, 91
+    ∷ same (code 2 (0x02 ∷ []) ∷ code 2 (0x00 ∷ []) ∷ code 2 (0x28 ∷ []) ∷ code 13 (0x6C ∷ []) ∷ code 8 (0x81 ∷ []) ∷ code 8 (0x91 ∷ []) ∷ [])
+    (number 13 1 ∷ number 13 1 ∷ number 13 1 ∷ number 13 7 ∷ number 13 5 ∷ number 13 5 ∷ [])
+    -- 7 in no protected page; JMP at FFFE, past FFFF; BMI at FFFE, whose next address is 0000, is 16
+    ∷ same (judged (firmware 1) 1 (set (mark 0x00 1 0 0) 1 0xFE ++ marks) ∷ wraps ∷ judged (firmware 1) 1 (marks ++ mark 0xFE 1 0 0) ∷ [])
+    (number 13 0 ∷ number 13 2 ∷ number 16 13 ∷ [])
+    -- 8 14: STA 0100, 01FF, 00FF; INC 0001,X, 01FF,X, 0000,X
+    ∷ same (code 12 (0x01 ∷ []) ∷ code 11 (0xFF ∷ 0x01 ∷ []) ∷ code 11 (0xFF ∷ 0x00 ∷ []) ∷ []) (number 14 6 ∷ number 14 6 ∷ 0 ∷ [])
+    ∷ same (code 35 (0x01 ∷ 0x00 ∷ []) ∷ code 35 (0xFF ∷ 0x01 ∷ []) ∷ code 35 (0x00 ∷ 0x00 ∷ []) ∷ [])
+    (number 14 10 ∷ number 14 10 ∷ 0 ∷ [])
+    -- 10 15: RTS in main, RTI and TXS and CLI in a routine, RTS in a handler, PLA at height 0
+    ∷ same (code 2 (0x60 ∷ []) ∷ code 33 (0x40 ∷ []) ∷ code 33 (0x9A ∷ []) ∷ code 33 (0x58 ∷ []) ∷ code 48 (0x60 ∷ []) ∷ code 2 (0x68 ∷ []) ∷ []) (number 15 1 ∷ number 15 9 ∷ number 15 9 ∷ number 15 9 ∷ number 15 12 ∷ number 15 1 ∷ [])
+    -- 11 16: next address unmarked, of another kind, height, need; branch and jump target; JSR's target no routine, or its need
+    ∷ same (code 0 (0xEA ∷ []) ∷ marking 3 2 2 ∷ marking 3 3 1 ∷ marking 3 4 4 ∷ code 9 (0xF7 ∷ []) ∷ code 14 (0x01 ∷ []) ∷ code 4 (0x30 ∷ []) ∷ marking 8 4 2 ∷ [])
+    (number 16 0 ∷ number 16 2 ∷ number 16 2 ∷ number 16 2 ∷ number 16 5 ∷ number 16 7 ∷ number 16 2 ∷ number 16 2 ∷ [])
+    -- 12 16: PHA's successor as high, or in as much need; PLA's not lower, or in more need
+    ∷ same (marking 4 3 0 ∷ marking 4 4 3 ∷ marking 5 3 1 ∷ marking 4 4 1 ∷ []) (number 16 3 ∷ number 16 3 ∷ number 16 4 ∷ number 16 4 ∷ [])
+    ∷ []
+
+computed-maps : failing 1 maps ≡ []
+unfolding opened formTests vectorsHold rulesOf ruleTests admit
+computed-maps = refl

@@ -1,0 +1,336 @@
+-- Each instruction of an admitted image, as its rules let it stand in the map, leaves the stack as the map says.
+use Prim.Native.Nat.{ℕ, _+_, _-_, _/_, _%_, _<_, _≤_}
+use native.Mathlib.Omega.{arith}
+use mathlib.Core.Path.{_≡_, refl, sym, ap, _∙_}
+use mathlib.Core.Bool.{Bool, true, false, false≢true}
+use mathlib.Core.List.{List}
+use borrow.Author.Tests.{lt-leb, leb-true, eq-eqb, eqb-true}
+use lib.Dec.{eqb}
+use lib.ListN.{length, set, length-set}
+use lib.Seq.{getD-set-other}
+use Rattle.rules.specs.declared.Cpu.{Cpu}
+use Rattle.rules.specs.declared.Mode.{Mode}
+use Rattle.rules.specs.declared.Reading.{Reading}
+use Rattle.rules.specs.declared.Storing.{Storing}
+use Rattle.rules.specs.declared.Changing.{Changing}
+use Rattle.rules.specs.declared.Internal.{Internal}
+use Rattle.rules.specs.declared.Condition.{Condition}
+use Rattle.rules.specs.declared.Instruction.{Instruction}
+use Rattle.rules.specs.declared.Instruction.the-variants.{Read, Store, Change, Accumulator, Implied, Branch, Jump, JumpIndirect, Jsr, Rts, Rti, Brk, Php, Plp, Pha, Pla, Txs, Cli}
+use Rattle.rules.specs.Basics.{if_then_else_, at, address, sum8, sum16}
+use Rattle.rules.specs.Cycles.{Cycles, _>>=_}
+use Rattle.rules.specs.Flags.{byteOf4, flagsOf}
+use Rattle.rules.specs.Addressing.{load, place}
+use Rattle.rules.specs.Operations.{stack, down, withPc, used, taken, target, branchTo, push, pull, rts, rti, jsr, perform}
+use Rattle.rules.specs.Bus.{isProtected, images}
+use Rattle.admission_rules.specs.Admission.{Mark, markAt, main, routine, handler, storeTests, next, wordAt, goesOn, isAtZero, rulesOf}
+use Rattle.admission_rules.specs.Safety.{Stacked, Effect, none, pushes, effectOf, stackedAfter, pushesOf}
+use Rattle.laws.proofs.Tests.{Hold, if-case, and-left, and-right}
+use Rattle.admission_rules.proofs.Stacks.{Stands, Leads, starts, alone, stays, pushes-one, pulls-one, calls, returns, goes-back}
+use Rattle.admission_rules.proofs.Admissions.{hold-left, hold-right}
+use Rattle.admission_rules.proofs.Marks.{Admitted, leads-to}
+use Rattle.admission_rules.proofs.Ends.{End, ends}
+use Rattle.admission_rules.proofs.Calm.{OffPage, Calm, calm-bind, set-byte, calmly}
+use Rattle.admission_rules.proofs.Places.{Bytes, Small, load-calm, place-calm}
+use Rattle.admission_rules.proofs.Plain.{To, On, used-on, inside-on, same-on, changed-on, changed-good, accumulator-on, register-byte, p-byte}
+use Rattle.admission_rules.proofs.Shapes.{gives, small}
+
+module _ (m₀ : List ℕ) (c : ℕ) (map : List ℕ) (ad : Admitted m₀ c map) where
+  -- an image whose protected pages are as they were admitted
+  pub record Image (m : List ℕ) : Type 0 where
+    pub size : length m ≡ 65536
+    pub bytes : (p : ℕ) → at m p < 256
+    pub code : (p : ℕ) → isProtected c p ≡ true → at m p ≡ at m₀ p
+
+  -- between two steps: the registers u and the image m, with k bytes on the stack
+  pub record Ready (u : Cpu) (m : List ℕ) (k : Stacked) : Type 0 where
+    pub stands : Stands map (ad .N) (u .s) (u .p .i) (u .pc) m k
+    pub registers : Bytes u
+    pub image : Image m
+
+  -- an end that is as an effect says, from S on and with k bytes on the stack
+  pub record Done (e : Effect) (s : ℕ) (k : Stacked) (x : End Cpu) : Type 0 where
+    pub only : x .writes ≡ pushesOf e s
+    pub next : Ready (x .value) (x .image) (stackedAfter e k)
+
+  pub few : ad .N ≤ 253
+  few = omega (arith, ad .room)
+
+  -- the stack page is not protected
+  pub stack-open : (s : ℕ) → s < 256 → isProtected c (stack s) ≡ false
+  stack-open s h = lt-leb (256 - c) (stack s / 256) (omega (arith, ad .most))
+
+  pub stack-page : (s : ℕ) → s < 256 → eqb (stack s / 256) 1 ≡ true
+  stack-page s h = eq-eqb (stack s / 256) 1 (omega arith)
+
+  pub pushed-image : (m : List ℕ) (s x : ℕ) → s < 256 → x < 256 → Image m → Image (set m (stack s) x)
+  pushed-image m s x hs hx i =
+      record {
+        size = length-set m (stack s) x ∙ i .size;
+        bytes = set-byte m (stack s) x hx (i .bytes);
+        code = λ q h.
+            getD-set-other m (stack s) q x 0 (λ e. false≢true (sym (stack-open s hs) ∙ ap (isProtected c) (sym e) ∙ h)) ∙ i .code q h;
+      }
+
+  module _ (u : Cpu) (m : List ℕ) (k : Stacked) (g : Ready u m k) where
+    abbrev pub v : Stands map (ad .N) (u .s) (u .p .i) (u .pc) m k
+    v = g .stands
+
+    abbrev pub mark : Mark
+    mark = markAt map (v .i)
+
+    -- where a step may go on in the same routine
+    abbrev pub Follows : ℕ → Type 0
+    Follows p = Leads map p (mark .kind) (mark .height) 0 (mark .need)
+
+    -- a plain instruction goes on somewhere that follows
+    record Lands (d : Cpu) : Type 0 where
+      n : ℕ
+      follows : Follows n
+      to : To (u .s) (u .p .i) n d
+
+    lands : (n : ℕ) → Follows n → (d : Cpu) → To (u .s) (u .p .i) n d → Lands d
+    lands n f d t = record { n = n; follows = f; to = t }
+
+    calm-done : (t : Cycles Cpu) → Calm Lands t → Done none (u .s) k (ends c t m)
+    calm-done t q =
+        let r = calmly Lands c t m (g .image .bytes) q in
+        let to = r .value .to in
+        let d = ends c t m .value in
+        let s = stays map (ad .N) (u .s) (u .p .i) (u .pc) m k v (d .p .i) (r .value .n) (ends c t m .image) (r .value .follows)
+        (λ h. to .masks (v .masked h)) (r .kept .stackPage) in
+        record {
+          only = r .quiet;
+          next =
+              record {
+                stands = rw (to .stays, to .pc) s;
+                registers = to .bytes;
+                image =
+                    record {
+                      size = r .kept .size ∙ g .image .size;
+                      bytes = r .kept .bytes;
+                      code = λ p h. r .kept .protectedPages p h ∙ g .image .code p h;
+                    };
+              };
+        }
+
+    at-pc : (n : ℕ) → Bytes (withPc n u)
+    at-pc n = let w = g .registers in record { a = w .a; x = w .x; y = w .y; s = w .s }
+
+    abbrev Rules : Instruction → Type 0
+    Rules i = Hold (rulesOf images m₀ c map (v .i) i)
+
+    -- "next address", where PC stands when the whole instruction was fetched
+    abbrev pub n : ℕ
+    n = next images m₀ c map (v .i)
+
+    abbrev pub w : Cpu
+    w = withPc n u
+
+    -- what the instruction i does from there
+    abbrev Does : Instruction → Type 0
+    Does i = Done (effectOf i) (u .s) k (ends c (perform i w) m)
+
+    follows : (p : ℕ) → goesOn images m₀ c map (v .i) p .holds ≡ true → Follows p
+    follows p h = leads-to map p (mark .kind) (mark .height) 0 (mark .need) h
+
+    next-lands : Follows n → (d : Cpu) → On w d → Lands d
+    next-lands f d t = lands n f d t
+
+    does-read : (o : Reading) (d : Mode) → Small d → Rules (Read o d) → Does (Read o d)
+    unfolding rulesOf perform
+    does-read o d h t =
+        calm-done _ (calm-bind (λ x. x < 256) Lands (load w d) _ (load-calm w d h)
+        (λ x q. next-lands (follows n (t .0)) (used o x w) (used-on o x w (at-pc n) q)))
+
+    does-store : (o : Storing) (d : Mode) → Small d → Rules (Store o d) → Does (Store o d)
+    unfolding rulesOf perform
+    does-store o d h t =
+        let on = follows n (hold-right (storeTests (v .i) d) _ t .0) in
+        calm-done _ (calm-bind OffPage Lands (place w d) _ (place-calm (v .i) w d (at-pc n) h (hold-left (storeTests (v .i) d) _ t))
+        (λ p off. (off, register-byte o w (at-pc n), next-lands on w (same-on w (at-pc n)))))
+
+    does-change : (o : Changing) (d : Mode) → Small d → Rules (Change o d) → Does (Change o d)
+    unfolding rulesOf perform _>>=_
+    does-change o d h t =
+        let on = follows n (hold-right (storeTests (v .i) d) _ t .0) in
+        calm-done _ (calm-bind OffPage Lands (place w d) _ (place-calm (v .i) w d (at-pc n) h (hold-left (storeTests (v .i) d) _ t))
+        (λ p off x q. (off, q, (off, changed-good o x (u .p) q .value, next-lands on _ (changed-on o x w (at-pc n) q)))))
+
+    does-accumulator : (o : Changing) → Rules (Accumulator o) → Does (Accumulator o)
+    unfolding rulesOf perform
+    does-accumulator o t = calm-done _ (next-lands (follows n (t .0)) _ (accumulator-on o w (at-pc n)))
+
+    does-implied : (o : Internal) → Rules (Implied o) → Does (Implied o)
+    unfolding rulesOf perform
+    does-implied o t = calm-done _ (next-lands (follows n (t .0)) _ (inside-on o w (at-pc n)))
+
+    -- at another address, the registers as they are
+    there : (p : ℕ) → Follows p → Lands (withPc p w)
+    there p f = lands p f (withPc p w) (same-on (withPc p w) (at-pc p))
+
+    does-branch : (x : Condition) (o : ℕ) → Rules (Branch x o) → Does (Branch x o)
+    unfolding rulesOf perform branchTo _>>=_
+    does-branch x o t =
+        let to = target n o in
+        let f = follows to (t .1 .0) in
+        calm-done _ (if-case (Calm Lands) (taken x (u .p)) _ _
+        (λ h y q. if-case (Calm Lands) (eqb (to / 256) (n / 256)) _ _ (λ e. there to f) (λ e z r. there to f))
+        (λ h. there n (follows n (t .0))))
+
+    does-jump : (a : ℕ) → Rules (Jump a) → Does (Jump a)
+    unfolding rulesOf perform
+    does-jump a t = calm-done _ (there a (follows a (t .0)))
+
+    -- one more on the stack: PHA, PHP
+    does-push : (x : ℕ) → x < 256 → Leads map n (mark .kind) (mark .height + 1) 1 (mark .need) → Done (pushes 1) (u .s) k (ends c (push x w) m)
+    unfolding push ends _>>=_
+    does-push x h f =
+        let s = g .registers .s in
+        rw (stack-open (u .s) s, stack-page (u .s) s)
+        (record {
+          only = refl;
+          next =
+              record {
+                stands = pushes-one map (ad .N) (u .s) (u .p .i) (u .pc) m k v few s (g .image .size) x n f;
+                registers = let r = g .registers in record { a = r .a; x = r .x; y = r .y; s = omega arith };
+                image = pushed-image m (u .s) x s h (g .image);
+              };
+        })
+
+    does-pla : Rules Pla → Does Pla
+    unfolding rulesOf perform pull ends _>>=_
+    does-pla t =
+        record {
+          only = refl;
+          next =
+              record {
+                stands =
+                    pulls-one map (ad .N) (u .s) (u .p .i) (u .pc) m k v n (leb-true 1 (mark .height) (t .0))
+                    (leads-to map n (mark .kind) (mark .height - 1) 0 (mark .need + 1) (t .1 .0));
+                registers = let r = g .registers in record { a = g .image .bytes _; x = r .x; y = r .y; s = omega arith };
+                image = g .image;
+              };
+        }
+
+    at-zero : (kind : ℕ) → isAtZero images m₀ c map (v .i) kind ≡ true → (mark .kind ≡ kind) × (mark .height ≡ 0)
+    at-zero kind h =
+        let a = eqb (mark .kind) kind in
+        let z = eqb (mark .height) 0 in
+        (eqb-true _ _ (and-left a z h), eqb-true _ _ (and-right a z h))
+
+    does-rts : Rules Rts → Does Rts
+    unfolding rulesOf perform rts ends _>>=_
+    does-rts t =
+        let z = at-zero routine (t .0) in
+        record {
+          only = refl;
+          next =
+              record {
+                stands = returns map (ad .N) (u .s) (u .p .i) (u .pc) m k v (z .0) (z .1);
+                registers = let r = g .registers in record { a = r .a; x = r .x; y = r .y; s = omega arith };
+                image = g .image;
+              };
+        }
+
+    does-rti : Rules Rti → Does Rti
+    unfolding rulesOf perform rti ends _>>=_
+    does-rti t =
+        let z = at-zero handler (t .0) in
+        record {
+          only = refl;
+          next =
+              record {
+                stands = goes-back map (ad .N) (u .s) (u .p .i) (u .pc) m k v (flagsOf (at m (stack (sum8 (u .s) 1))) .i) (z .0) (z .1);
+                registers = let r = g .registers in record { a = r .a; x = r .x; y = r .y; s = omega arith };
+                image = g .image;
+              };
+        }
+
+    does-txs : Rules Txs → Does Txs
+    unfolding rulesOf perform ends
+    does-txs t =
+        let z = at-zero main (t .0) in
+        let on = follows n (t .1 .0) in
+        let idle = alone map (ad .N) (u .s) (u .p .i) (u .pc) m k v (z .0) in
+        record {
+          only = refl;
+          next =
+              record {
+                stands =
+                    starts map (ad .N) (u .x) (u .p .i) n m
+                    (record {
+                      i = on .i;
+                      within = on .within;
+                      address = on .address;
+                      kind = on .kind ∙ z .0;
+                      height = on .height ∙ z .1;
+                      need = omega (arith, on .need, idle .1);
+                    });
+                registers = let r = g .registers in record { a = r .a; x = r .x; y = r .y; s = r .x };
+                image = g .image;
+              };
+        }
+
+    -- CLI stands in the main program, where no handler runs
+    does-cli : Rules Cli → Does Cli
+    unfolding rulesOf perform ends
+    does-cli t =
+        let idle = alone map (ad .N) (u .s) (u .p .i) (u .pc) m k v (eqb-true _ _ (t .0)) in
+        record {
+          only = refl;
+          next =
+              record {
+                stands =
+                    stays map (ad .N) (u .s) (u .p .i) (u .pc) m k v false n m (follows n (t .1 .0)) (λ h. sym (idle .0) ∙ h) (λ p h. refl);
+                registers = let r = g .registers in record { a = r .a; x = r .x; y = r .y; s = r .s };
+                image = g .image;
+              };
+        }
+
+    -- JSR: "low, read at S, push PC+2 high, low, then high operand"; PC stands at the high operand, which the pushes leave as it is
+    pub does-jsr : (low p : ℕ) → p < 65536 → sum16 p 1 ≡ n → isProtected c p ≡ true → address low (at m₀ p) ≡ wordAt images m₀ c map (sum16 (mark .address) 1) →
+        Rules (Jsr low) → Done (pushes 2) (u .s) k (ends c (perform (Jsr low) (withPc p u)) m)
+    unfolding rulesOf perform jsr ends _>>=_
+    does-jsr low p h on code to t =
+        let s = g .registers .s in
+        let s₁ : down 1 (u .s) < 256 = omega arith in
+        let whole : address (p % 256) (p / 256) ≡ p = omega arith in
+        let m₁ = set m (stack (u .s)) (p / 256) in
+        let m₂ = set m₁ (stack (down 1 (u .s))) (p % 256) in
+        let image = pushed-image m₁ (down 1 (u .s)) (p % 256) s₁ (omega arith) (pushed-image m (u .s) (p / 256) s (omega arith) (g .image)) in
+        let there = ap (address low) (image .code p code) ∙ to in
+        rw (stack-open (u .s) s, stack-page (u .s) s, stack-open (down 1 (u .s)) s₁, stack-page (down 1 (u .s)) s₁)
+        (record {
+          only = refl;
+          next =
+              record {
+                stands =
+                    calls map (ad .N) (u .s) (u .p .i) (u .pc) m k v few s (g .image .size) (p % 256) (p / 256) n (address low (at m₂ p)) (rw whole on)
+                    (follows n (t .0)) (rw there (leads-to map _ routine 0 2 (mark .need) (t .1 .0)));
+                registers = let r = g .registers in record { a = r .a; x = r .x; y = r .y; s = omega arith };
+                image = image;
+              };
+        })
+
+    -- an instruction that was fetched whole
+    pub performs : (i : Instruction) (wide : Bool) (x : ℕ) → gives wide x i ≡ x → x < (if wide then 65536 else 256) → Rules i → Does i
+    unfolding rulesOf perform
+    performs (Read o d) wide x e h t = does-read o d (small wide x d e h) t
+    performs (Store o d) wide x e h t = does-store o d (small wide x d e h) t
+    performs (Change o d) wide x e h t = does-change o d (small wide x d e h) t
+    performs (Accumulator o) wide x e h t = does-accumulator o t
+    performs (Implied o) wide x e h t = does-implied o t
+    performs (Branch y o) wide x e h t = does-branch y o t
+    performs (Jump a) wide x e h t = does-jump a t
+    performs (JumpIndirect a) wide x e h t = absurd (false≢true (t .0))
+    performs (Jsr low) wide x e h t = absurd (omega arith)
+    performs Rts wide x e h t = does-rts t
+    performs Rti wide x e h t = does-rti t
+    performs Brk wide x e h t = absurd (false≢true (t .0))
+    performs Php wide x e h t = does-push (byteOf4 (u .p)) (p-byte (u .p)) (leads-to map n (mark .kind) (mark .height + 1) 1 (mark .need) (t .0))
+    performs Plp wide x e h t = absurd (false≢true (t .0))
+    performs Pha wide x e h t = does-push (u .a) (g .registers .a) (leads-to map n (mark .kind) (mark .height + 1) 1 (mark .need) (t .0))
+    performs Pla wide x e h t = does-pla t
+    performs Txs wide x e h t = does-txs t
+    performs Cli wide x e h t = does-cli t

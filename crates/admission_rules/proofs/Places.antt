@@ -1,0 +1,81 @@
+-- Loads give bytes, and by the rules of the map the data of a store, shift, INC or DEC is off the stack page.
+use Prim.Native.Nat.{ℕ, _+_, _<_, _≤_}
+use native.Mathlib.Omega.{arith}
+use native.Mathlib.Decide.{decLe}
+use mathlib.Core.Path.{_≡_}
+use mathlib.Core.Bool.{true, not, _&&_, false≢true}
+use borrow.Author.Tests.{le-leb}
+use lib.Dec.{leb}
+use Rattle.rules.specs.declared.Cpu.{Cpu}
+use Rattle.rules.specs.declared.Mode.{Mode}
+use Rattle.rules.specs.declared.Mode.the-variants.{Immediate, Zero, ZeroX, ZeroY, Absolute, AbsoluteX, AbsoluteY, IndirectX, IndirectY, IndirectBankY}
+use Rattle.rules.specs.Basics.{sum16}
+use Rattle.rules.specs.Cycles.{Bank, execution, indirect, _>>=_}
+use Rattle.rules.specs.Addressing.{load, place, pointer, zeroIndexed, indexed, crosses, loadIndexed}
+use Rattle.admission_rules.specs.Admission.{storeTests}
+use Rattle.laws.proofs.Tests.{Hold, if-case}
+use Rattle.admission_rules.proofs.Calm.{OffPage, Calm}
+
+-- an operand that is data or an address of page zero is a byte; a base has 16 bits
+abbrev pub Small : Mode → Type 0
+Small (Immediate v) = v < 256
+Small (Zero z) = z < 256
+Small (ZeroX z) = Unit {0}
+Small (ZeroY z) = Unit {0}
+Small (Absolute a) = Unit {0}
+Small (AbsoluteX a) = a < 65536
+Small (AbsoluteY a) = a < 65536
+Small (IndirectX z) = Unit {0}
+Small (IndirectY z) = Unit {0}
+Small (IndirectBankY z) = Unit {0}
+
+pub record Bytes (c : Cpu) : Type 0 where
+  pub a : c .a < 256
+  pub x : c .x < 256
+  pub y : c .y < 256
+  pub s : c .s < 256
+
+indexed-calm : (b : Bank) (a i : ℕ) → Calm (λ v. v < 256) (loadIndexed b a i)
+unfolding loadIndexed
+indexed-calm b a i = λ v n. if-case (Calm (λ v. v < 256)) (crosses a i) _ _ (λ h w o. o) (λ h. n)
+
+-- a load gives a byte
+pub load-calm : (c : Cpu) (d : Mode) → Small d → Calm (λ v. v < 256) (load c d)
+unfolding load zeroIndexed pointer _>>=_
+load-calm c (Immediate v) h = h
+load-calm c (Zero z) h = λ v n. n
+load-calm c (ZeroX z) h = λ u o v n. n
+load-calm c (ZeroY z) h = λ u o v n. n
+load-calm c (Absolute a) h = λ v n. n
+load-calm c (AbsoluteX a) h = indexed-calm execution a (c .x)
+load-calm c (AbsoluteY a) h = indexed-calm execution a (c .y)
+load-calm c (IndirectX z) h = λ u o low n high n′ v n″. n″
+load-calm c (IndirectY z) h = λ low n high n′. indexed-calm execution _ (c .y)
+load-calm c (IndirectBankY z) h = λ low n high n′. indexed-calm indirect _ (c .y)
+
+outside : (l a h : ℕ) → not (leb l a && leb a h) ≡ true → l ≤ a → a ≤ h → ⊥
+outside l a h t p q = false≢true (rw (le-leb l a p, le-leb a h q) at t)
+
+-- from a base outside 0001 to 01FF, no index leads to the stack page
+base-off : (a i : ℕ) → a < 65536 → i < 256 → not (leb 0x0001 a && leb a 0x01FF) ≡ true → OffPage (sum16 a i)
+base-off a i ha hi t e = go (decLe 1 a) (decLe a 511) (decLe 65536 (a + i))
+  where
+    go : Dec (1 ≤ a) → Dec (a ≤ 511) → Dec (65536 ≤ a + i) → ⊥
+    go (yes p) (yes q) d = outside 1 a 511 t p q
+    go (no p) q d = omega arith
+    go (yes p) (no q) (yes d) = omega arith
+    go (yes p) (no q) (no d) = omega arith
+
+-- by the rules a store's data is off the stack page
+pub place-calm : (i : ℕ) (c : Cpu) (d : Mode) → Bytes c → Small d → Hold (storeTests i d) → Calm OffPage (place c d)
+unfolding place zeroIndexed pointer indexed _>>=_
+place-calm i c (Immediate v) b h t = λ e. omega arith
+place-calm i c (Zero z) b h t = λ e. omega arith
+place-calm i c (ZeroX z) b h t = λ u o e. omega arith
+place-calm i c (ZeroY z) b h t = λ u o e. omega arith
+place-calm i c (Absolute a) b h t = λ e. outside 256 a 511 (t .0) (omega arith) (omega arith)
+place-calm i c (AbsoluteX a) b h t = λ u o. base-off a (c .x) h (b .x) (t .0)
+place-calm i c (AbsoluteY a) b h t = λ u o. base-off a (c .y) h (b .y) (t .0)
+place-calm i c (IndirectX z) b h t = absurd (false≢true (t .0))
+place-calm i c (IndirectY z) b h t = absurd (false≢true (t .0))
+place-calm i c (IndirectBankY z) b h t = absurd (false≢true (t .0))

@@ -1,0 +1,190 @@
+-- Every step makes at most 7 accesses, and one whose opcode is defined at least 2: 56 bytes suffice.
+use Prim.Native.Nat.{ℕ, suc, _+_, _/_, _≤_}
+use native.Mathlib.Omega.{arith}
+use mathlib.Core.Path.{_≡_, refl}
+use mathlib.Core.Bool.{Bool, true, false, _&&_, false≢true}
+use mathlib.Core.List.{List, [], _∷_}
+use borrow.Author.Tests.{leb-true}
+use lib.Dec.{eqb, leb}
+use lib.ListN.{length}
+use Rattle.rules.specs.declared.Cpu.{Cpu}
+use Rattle.rules.specs.declared.State.{State}
+use Rattle.rules.specs.declared.Mode.{Mode}
+use Rattle.rules.specs.declared.Mode.the-variants.{Immediate, Zero, ZeroX, ZeroY, Absolute, AbsoluteX, AbsoluteY, IndirectX, IndirectY, IndirectBankY}
+use Rattle.rules.specs.declared.Instruction.{Instruction}
+use Rattle.rules.specs.declared.Instruction.the-variants.{Read, Store, Change, Accumulator, Implied, Branch, Jump, JumpIndirect, Jsr, Rts, Rti, Brk, Php, Plp, Pha, Pla, Txs, Cli}
+use Rattle.rules.specs.Basics.{if_then_else_, address}
+use Rattle.rules.specs.Cycles.{Bank, execution, indirect, _>>=_, Device, run}
+use Rattle.rules.specs.Opcodes.{Entry, undefined, alone, byte, word, late, Row, rows, among, decode, isDefined}
+use Rattle.rules.specs.Addressing.{load, place, pointer, zeroIndexed, indexed, crosses, loadIndexed}
+use Rattle.rules.specs.Operations.{branchTo, enter, push, pull, jsr, rts, rti, brk, jumpIndirect, perform, operate, instruction, taken, target, next}
+use Rattle.rules.specs.Interrupts.{Event, res, nmi, irq, execute, interrupt, reset, cyclesOf}
+use Rattle.rules.specs.Bus.{Memory, world, board}
+use Rattle.rules.specs.Step.{ranOf, opcodeOf, canStep}
+use Rattle.laws.proofs.Tests.{and-left, and-right}
+use Rattle.laws.proofs.Cycles.{Most, most-le, most-bind, most-if}
+
+-- How many accesses a load makes at most, how many come before a store's or a change's data, and how many an instruction makes after its
+-- operand.
+
+abbrev pub loadMost : Mode → ℕ
+loadMost (Immediate v) = 0
+loadMost (Zero z) = 1
+loadMost (ZeroX z) = 2
+loadMost (ZeroY z) = 2
+loadMost (Absolute a) = 1
+loadMost (AbsoluteX a) = 2
+loadMost (AbsoluteY a) = 2
+loadMost (IndirectX z) = 4
+loadMost (IndirectY z) = 4
+loadMost (IndirectBankY z) = 4
+
+abbrev pub placeMost : Mode → ℕ
+placeMost (Immediate v) = 0
+placeMost (Zero z) = 0
+placeMost (ZeroX z) = 1
+placeMost (ZeroY z) = 1
+placeMost (Absolute a) = 0
+placeMost (AbsoluteX a) = 1
+placeMost (AbsoluteY a) = 1
+placeMost (IndirectX z) = 3
+placeMost (IndirectY z) = 3
+placeMost (IndirectBankY z) = 3
+
+abbrev pub instructionMost : Instruction → ℕ
+instructionMost (Read o m) = loadMost m + 0
+instructionMost (Store o m) = placeMost m + 1
+instructionMost (Change o m) = placeMost m + 3
+instructionMost (Accumulator o) = 0
+instructionMost (Implied o) = 0
+instructionMost (Branch t o) = 2
+instructionMost (Jump a) = 0
+instructionMost (JumpIndirect a) = 2
+instructionMost (Jsr low) = 4
+instructionMost Rts = 4
+instructionMost Rti = 4
+instructionMost Brk = 5
+instructionMost Php = 1
+instructionMost Plp = 2
+instructionMost Pha = 1
+instructionMost Pla = 2
+instructionMost Txs = 0
+instructionMost Cli = 0
+
+indexed-most : (b : Bank) (a i : ℕ) → Most 2 (loadIndexed b a i)
+unfolding loadIndexed
+indexed-most b a i = λ v. most-if 1 (crosses a i) _ _ (λ w. tt) tt
+
+load-most : (c : Cpu) (m : Mode) → Most (loadMost m) (load c m)
+unfolding load zeroIndexed pointer _>>=_
+load-most c (Immediate v) = tt
+load-most c (Zero z) = λ v. tt
+load-most c (ZeroX z) = λ u v. tt
+load-most c (ZeroY z) = λ u v. tt
+load-most c (Absolute a) = λ v. tt
+load-most c (AbsoluteX a) = indexed-most execution a (c .x)
+load-most c (AbsoluteY a) = indexed-most execution a (c .y)
+load-most c (IndirectX z) = λ t u v w. tt
+load-most c (IndirectY z) = λ low high. indexed-most execution (address low high) (c .y)
+load-most c (IndirectBankY z) = λ low high. indexed-most indirect (address low high) (c .y)
+
+place-most : (c : Cpu) (m : Mode) → Most (placeMost m) (place c m)
+unfolding place zeroIndexed pointer indexed _>>=_
+place-most c (Immediate v) = tt
+place-most c (Zero z) = tt
+place-most c (ZeroX z) = λ u. tt
+place-most c (ZeroY z) = λ u. tt
+place-most c (Absolute a) = tt
+place-most c (AbsoluteX a) = λ u. tt
+place-most c (AbsoluteY a) = λ u. tt
+place-most c (IndirectX z) = λ t u v. tt
+place-most c (IndirectY z) = λ low high v. tt
+place-most c (IndirectBankY z) = λ low high v. tt
+
+branch-most : (to : ℕ) (c : Cpu) → Most 2 (branchTo to c)
+unfolding branchTo _>>=_
+branch-most to c = λ v. most-if 1 (eqb (to / 256) (c .pc / 256)) _ _ tt (λ w. tt)
+
+perform-most : (i : Instruction) (c : Cpu) → Most (instructionMost i) (perform i c)
+unfolding perform jumpIndirect jsr rts rti brk enter push pull _>>=_
+perform-most (Read o m) c = most-bind (loadMost m) 0 (load c m) _ (load-most c m) (λ v. tt)
+perform-most (Store o m) c = most-bind (placeMost m) 1 (place c m) _ (place-most c m) (λ p. tt)
+perform-most (Change o m) c = most-bind (placeMost m) 3 (place c m) _ (place-most c m) (λ p v. tt)
+perform-most (Accumulator o) c = tt
+perform-most (Implied o) c = tt
+perform-most (Branch t o) c = most-if 2 (taken t (c .p)) _ _ (branch-most (target (c .pc) o) c) tt
+perform-most (Jump a) c = tt
+perform-most (JumpIndirect a) c = λ low high. tt
+perform-most (Jsr low) c = λ v high. tt
+perform-most Rts c = λ v low high w. tt
+perform-most Rti c = λ v p low high. tt
+perform-most Brk c = λ low high. tt
+perform-most Php c = tt
+perform-most Plp c = λ v p. tt
+perform-most Pha c = tt
+perform-most Pla c = λ v p. tt
+perform-most Txs c = tt
+perform-most Cli c = tt
+
+-- The same of an entry, whose operand is v: the operand's accesses come first.
+
+abbrev pub entryMost : Entry → ℕ → ℕ
+entryMost undefined v = 0
+entryMost (alone i) v = 1 + instructionMost i
+entryMost (byte f) v = 1 + instructionMost (f v)
+entryMost (word f) v = 2 + instructionMost (f v)
+entryMost (late f) v = 1 + instructionMost (f v)
+
+operate-most : (n : ℕ) (e : Entry) (c : Cpu) → ((v : ℕ) → entryMost e v ≤ suc (suc n)) → Most (suc (suc n)) (operate e c)
+unfolding operate _>>=_
+operate-most n undefined c h = tt
+operate-most n (alone i) c h = λ v. most-le (instructionMost i) (suc n) (omega (arith, h 0)) (perform i c) (perform-most i c)
+operate-most n (byte f) c h = λ v. most-le (instructionMost (f v)) (suc n) (omega (arith, h v)) (perform (f v) (next c)) (perform-most (f v) (next c))
+operate-most n (word f) c h = λ low high.
+    let v = address low high in
+    most-le (instructionMost (f v)) n (omega (arith, h v)) (perform (f v) (next (next c))) (perform-most (f v) (next (next c)))
+operate-most n (late f) c h = λ v. most-le (instructionMost (f v)) (suc n) (omega (arith, h v)) (perform (f v) (next c)) (perform-most (f v) (next c))
+
+-- the test of all rows, whatever the operand
+abbrev short : List Row → ℕ → Bool
+short [] v = true
+short (r ∷ rs) v = leb (entryMost (r .entry) v) 6 && short rs v
+
+rows-short : (v : ℕ) → short rows v ≡ true
+rows-short v = refl
+
+among-short : (l : List Row) (n v : ℕ) → short l v ≡ true → entryMost (among l n) v ≤ 6
+among-short [] n v h = omega arith
+among-short (r ∷ l) n v h = go (eqb n (r .opcode)) (among-short l n v (and-right (leb (entryMost (r .entry) v) 6) (short l v) h))
+  where
+    go : (b : Bool) → entryMost (among l n) v ≤ 6 → entryMost (if b then r .entry else among l n) v ≤ 6
+    go true q = leb-true (entryMost (r .entry) v) 6 (and-left (leb (entryMost (r .entry) v) 6) (short l v) h)
+    go false q = q
+
+pub decode-short : (n v : ℕ) → entryMost (decode n) v ≤ 6
+unfolding decode
+decode-short n v = among-short rows n v (rows-short v)
+
+pub at-most-seven : (e : Event) (c : Cpu) → Most 7 (cyclesOf e c)
+unfolding cyclesOf instruction reset interrupt enter _>>=_
+at-most-seven res c = λ a b d e f low high. tt
+at-most-seven nmi c = λ a b low high. tt
+at-most-seven irq c = λ a b low high. tt
+at-most-seven execute c = λ op. operate-most 4 (decode op) (next c) (decode-short op)
+
+operate-one : {W : Type 0} (d : Device W) (e : Entry) (c : Cpu) (w : W) → isDefined e ≡ true → 1 ≤ length (run d (operate e c) w .list)
+unfolding operate run _>>=_
+operate-one d undefined c w h = absurd (false≢true h)
+operate-one d (alone i) c w h = omega arith
+operate-one d (byte f) c w h = omega arith
+operate-one d (word f) c w h = omega arith
+operate-one d (late f) c w h = omega arith
+
+pub two-least : {M : Type 0} (memory : Memory M) (e : Event) (u : State) (m : M) → canStep memory e u m ≡ true →
+    2 ≤ length (ranOf memory e u m .list)
+unfolding cyclesOf instruction reset interrupt enter run _>>=_
+two-least memory res u m h = omega arith
+two-least memory nmi u m h = omega arith
+two-least memory irq u m h = omega arith
+two-least memory execute u m h =
+    omega (arith, operate-one (board memory) (decode (opcodeOf memory u m)) (next (u .cpu)) (world (u .bus) m) h)

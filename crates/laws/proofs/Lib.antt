@@ -1,0 +1,12 @@
+-- What follows from the definitions of rules, of every step, run, record and restart file.
+pub mod Tests
+pub mod Lists
+pub mod Cycles
+pub mod Entries
+pub mod Lengths
+pub mod Records
+pub mod Steps
+pub mod Runs
+pub mod Restarts
+pub mod Images
+pub mod Texts
