@@ -11,7 +11,13 @@
  *         halt(wankitare_refusal(word));
  *     log_accesses(accesses, wankitare_accesses(word));
  *
- * For C11 and C++11. The library is the archive that `second/archive OUT.a` makes, for x86-64 and Arm.
+ * For C99 and C++11, and what came after them. `scripts/library` makes the archives for x86-64 and Arm, with this header
+ * beside them. They need no symbol of a C library, nor of anything else.
+ *
+ * Nothing checks what C hands over: a pointer must lead to as many bytes as the length beside it says. What a call may
+ * write must overlap nothing else that the same call was given: not record, image and access buffer, not script, *steps
+ * and *listed. What calls only read (a script, a restart file, an admitted image and its map) may be shared and may lie
+ * in read-only memory. No buffer needs any alignment, and an empty one may have any pointer.
  */
 #ifndef WANKITARE_H
 #define WANKITARE_H
@@ -32,8 +38,8 @@ enum {
     /* record_len is not 16. */
     WANKITARE_RECORD_LENGTH = 1,
 
-    /* The record is none that a step could have written (see the record below): it is damaged, or was never set up.
-       Restart from one that was saved. Of a restart file it is the last whole record that is so. */
+    /* The record is none that a step could have written: it is damaged, or was never set up. Restart from one that was
+       saved. Of a restart file it is the last whole record that is so. */
     WANKITARE_RECORD_MALFORMED = 2,
 
     /* image_len is not 65,536; or, for a 6509, not 1, 2, 4, 8 or 16 times that. */
@@ -96,6 +102,63 @@ enum {
     WANKITARE_MOST_MAP_BYTES = 65536
 };
 
+/* Where things stand in the state record. "Malformed" (2) is whatever breaks what is said here. */
+enum {
+    WANKITARE_AT_PART = 0,      /* one of the three below */
+    WANKITARE_AT_A = 1,
+    WANKITARE_AT_X = 2,
+    WANKITARE_AT_Y = 3,
+    WANKITARE_AT_S = 4,         /* the stack pointer */
+    WANKITARE_AT_P = 5,         /* the flags below; bit 5 is 1, bit 4 is 0 */
+    WANKITARE_AT_PC = 6,        /* low, high */
+    WANKITARE_AT_REGISTERS = 8, /* those at 0000 and 0001: 0 on the 6502, at most 15 on the 6509 */
+    WANKITARE_AT_NMI = 10,      /* the last NMI level, 0 or 1; 0 on the 6508 */
+    WANKITARE_AT_PAGES = 11,    /* c: how many pages at the top of memory are write-protected; 0 on the 6509 */
+    WANKITARE_AT_CYCLES = 12    /* cycles so far, modulo 2^32: four bytes, low byte first */
+};
+
+/* The part. */
+enum {
+    WANKITARE_6502 = 2,
+    WANKITARE_6508 = 8,
+    WANKITARE_6509 = 9
+};
+
+/* The flags of P. */
+enum {
+    WANKITARE_FLAG_N = 0x80,
+    WANKITARE_FLAG_V = 0x40,
+    WANKITARE_FLAG_5 = 0x20, /* no flag: always 1 */
+    WANKITARE_FLAG_D = 0x08,
+    WANKITARE_FLAG_I = 0x04,
+    WANKITARE_FLAG_Z = 0x02,
+    WANKITARE_FLAG_C = 0x01
+};
+
+/* Where things stand in an access. The other bytes are 0. */
+enum {
+    WANKITARE_AT_ADDRESS = 0,   /* low, high */
+    WANKITARE_AT_BANK = 2,      /* of a 6509, as selected, 0 to 15; of k banks in the image it is this one modulo k */
+    WANKITARE_AT_VALUE = 3,
+    WANKITARE_AT_WRITTEN = 4    /* 0 for a read, 1 for a write (listed whole even where protection stops it) */
+};
+
+/* Where things stand in a map record. The other bytes are 0. */
+enum {
+    WANKITARE_AT_INSTRUCTION = 0,   /* its address, low, high */
+    WANKITARE_AT_KIND = 2,          /* one of the three below */
+    WANKITARE_AT_HEIGHT = 3,        /* how many bytes it finds on the stack, of those pushed since main began, the
+                                       routine was called or the handler was entered */
+    WANKITARE_AT_NEED = 4           /* how many more bytes may yet be pushed from there on */
+};
+
+/* The kind of an instruction. */
+enum {
+    WANKITARE_MAIN = 1,
+    WANKITARE_ROUTINE = 2,
+    WANKITARE_HANDLER = 3
+};
+
 /* The input lines, 1 meaning asserted. RES goes before NMI, and NMI before IRQ. */
 enum {
     WANKITARE_RES = 1,
@@ -106,27 +169,12 @@ enum {
 /*
  * Does one step: a reset, the entry to an interrupt, or the instruction at PC.
  *
- * record    The state, and after the step the new state:
- *               0       part: 02, 08 or 09
- *               1..4    A, X, Y, S
- *               5       P: N V 1 0 D I Z C from bit 7 down
- *               6, 7    PC low, high
- *               8, 9    the registers at 0000 and 0001: 0 on the 6502, at most 15 on the 6509
- *               10      last NMI level, 0 or 1: 0 on the 6508
- *               11      how many pages at the top of memory are write-protected: 0 on the 6509
- *               12..15  cycles so far, low byte first, modulo 2^32
+ * record    The state (WANKITARE_AT_PART and so on), and after the step the new state.
  * image     The memory, changed by what the step writes: 65,536 bytes, or the banks of a 6509 one after another.
  * lines     WANKITARE_RES, WANKITARE_NMI and WANKITARE_IRQ as they stand.
  * pins      The levels at the 6508's port; 0 for the other parts.
- * accesses  Room for 56 bytes or more. The front takes the step's bus accesses in the order of time, each of 8 bytes:
- *               0, 1    address low, high
- *               2       bank of a 6509, as selected, 0 to 15: where the image has k banks, it is this one modulo k
- *               3       value
- *               4       0 for a read, 1 for a write (listed whole even where protection stops it)
- *               5..7    0
- *           The bytes behind them stay as they are.
- *
- * The three buffers must not overlap; none needs any alignment, and an empty one may have any pointer.
+ * accesses  Room for 56 bytes or more. The front takes the step's bus accesses in the order of time, each of 8 bytes
+ *           (WANKITARE_AT_ADDRESS and so on). The bytes behind them stay as they are.
  *
  * Answers a word, as every call does: take it apart by the functions below. Its bits:
  *     0..7    the refusal's number, 0 where there is none
@@ -150,9 +198,6 @@ uint64_t wankitare_step(uint8_t *record, size_t record_len, uint8_t *image, size
  * listed    How many accesses they made, of 8 bytes each, from the front of accesses on.
  *
  * *steps and *listed are set on every return, both to 0 where no step was done; what they were before does not matter.
- *
- * The four buffers must not overlap; none needs any alignment, and an empty one may have any pointer. steps and listed
- * lead to two separate objects, which lie in none of the buffers.
  *
  * Answers 0 where the script was played to its end; an empty one is so at once. Otherwise the word of a refusal: of 1,
  * 2, 3 or 7, and nothing was done; or of the step that was refused, and the steps before it stand. The refused step
@@ -178,6 +223,9 @@ uint64_t wankitare_run(uint8_t *record, size_t record_len, uint8_t *image, size_
  *
  * It is the last whole record. Where that is malformed the answer is 2, and no older record is taken in its place; it
  * is 8 where the file is under 16 or over 65,536 bytes. The file is only read.
+ *
+ * A record is the processor alone. Go on from it with the image of the same moment, or assert RES in the first step:
+ * over another image RTS would find a return address that is not its own.
  */
 uint64_t wankitare_restart(const uint8_t *file, size_t file_len);
 
@@ -201,15 +249,8 @@ uint64_t wankitare_append_at(uint64_t file_len);
  *
  * image     The memory with the firmware in it: 65,536 bytes.
  * c         How many pages at the top are write-protected, 1 to 254: byte 11 of the record that it will run with.
- * map       One record of 8 bytes for each instruction, at most 8,192 of them, by ascending address:
- *               0, 1    address low, high
- *               2       kind: 1 main, 2 routine, 3 handler
- *               3       height: how many bytes it finds on the stack, of those pushed since main began, the routine was
- *                       called or the handler was entered
- *               4       need: how many more bytes may yet be pushed from there on
- *               5..7    0
- *
- * Both are only read, and may overlap; neither needs any alignment, and an empty one may have any pointer.
+ * map       One record of 8 bytes for each instruction (WANKITARE_AT_INSTRUCTION and so on), at most 8,192 of them, by
+ *           ascending address.
  *
  * Answers 0 where every rule holds. Otherwise 10; or 11 for the first record that is malformed or out of order; or 12;
  * or one of 13 to 16: the lowest record at which a rule is broken, and at it the lowest number.
@@ -261,6 +302,19 @@ static inline unsigned wankitare_tail(uint64_t word)
 static inline uint32_t wankitare_place(uint64_t word)
 {
     return (uint32_t)(word >> 16 & 0xFFFFFFFF);
+}
+
+/* Two bytes, low and high, as a number: a record's PC, an access's address, a map record's instruction. */
+static inline uint16_t wankitare_pair(const uint8_t *at)
+{
+    return (uint16_t)(at[0] | at[1] << 8);
+}
+
+/* A state record's cycles. They start again at 0 after 2^32: the difference of two readings is right all the same. */
+static inline uint32_t wankitare_cycles(const uint8_t *record)
+{
+    return wankitare_pair(record + WANKITARE_AT_CYCLES) |
+           (uint32_t)wankitare_pair(record + WANKITARE_AT_CYCLES + 2) << 16;
 }
 
 #ifdef __cplusplus
