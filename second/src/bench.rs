@@ -2,10 +2,10 @@
 //! record of an admitted map.
 
 use crate::bus::{ACCESS, BANK, MOST_ACCESSES};
-use crate::core::step;
 use crate::cores::{self, Noise, Tested};
 #[cfg(not(yardstick_only))]
 use crate::firmware::{Draw, Shape};
+use crate::pair::Pair;
 use crate::program::{PROGRAM, START};
 #[cfg(not(yardstick_only))]
 use crate::random::Random;
@@ -96,15 +96,42 @@ impl Board {
     }
 }
 
-/// A line of the table: a board for each core, and the least time it took. A ratio is the first core's time by
-/// that of the core before the ratio: the archive's by the yardstick's is the one that counts.
+/// The lines that the table begins with: step by step, and in runs, on each part.
+fn main_lines() -> Vec<(&'static str, Board)> {
+    vec![
+        ("step, 6502", Board::new(2, 1, 64)),
+        ("step, 6508", Board::new(8, 1, 64)),
+        ("step, 6509 with 4 banks", Board::new(9, 4, 64)),
+        ("run of 1,000, 6502", Board::with_runs(2, 1, 1000)),
+        ("run of 1,000, 6508", Board::with_runs(8, 1, 1000)),
+        (
+            "run of 1,000, 6509 with 4 banks",
+            Board::with_runs(9, 4, 1000),
+        ),
+    ]
+}
+
+/// What a step does not touch costs nothing, and a run's steps cost the same however many there are.
+fn further_lines() -> Vec<(&'static str, Board)> {
+    vec![
+        ("step, 6509 with 1 bank", Board::new(9, 1, 64)),
+        ("step, 6509 with 16 banks", Board::new(9, 16, 64)),
+        ("step, 6502, room for 56 bytes", Board::new(2, 1, 56)),
+        ("step, 6502, room for 65,536", Board::new(2, 1, 65_536)),
+        ("run of 10, 6502", Board::with_runs(2, 1, 10)),
+        ("run of 100, 6502", Board::with_runs(2, 1, 100)),
+        ("run of 10,000, 6502", Board::with_runs(2, 1, 10_000)),
+    ]
+}
+
+/// A line of the table: a board for each core, and the least time it took.
 struct Line {
     name: &'static str,
     runs: Vec<(Board, f64)>,
 }
 
 impl Line {
-    fn new(name: &'static str, board: Board) -> Line {
+    fn new((name, board): (&'static str, Board)) -> Line {
         Line {
             name,
             runs: vec![(board, f64::INFINITY); cores::all().len()],
@@ -117,71 +144,61 @@ impl Line {
         }
     }
 
+    /// The ratios are the first core's time by those of the others: the archive's by the yardstick's is the one that
+    /// counts.
     fn print(&self) {
         let first = self.runs[0].1;
-        print!("{:<28}{:>12.2}", self.name, first);
-        for (_, least) in &self.runs[1..] {
-            print!("{:>12.2}{:>12.2}", least, first / least);
-        }
+        print!("| {} |", self.name);
+        self.runs.iter().for_each(|(_, ns)| print!(" {:.1} |", ns));
+        self.runs[1..]
+            .iter()
+            .for_each(|(_, ns)| print!(" {:.2} |", first / ns));
         println!();
     }
 }
 
-/// False where a core and the second program do not agree on the program.
+/// Prints the table. False where a core and the second program do not agree on the program.
 pub fn bench() -> bool {
-    let steps = [
-        ("6502", Board::new(2, 1, 64)),
-        ("6508", Board::new(8, 1, 64)),
-        ("6509, 4 banks", Board::new(9, 4, 64)),
-    ];
-    let runs = [
-        ("6502, 1000 steps", Board::with_runs(2, 1, 1000)),
-        ("6508, 1000 steps", Board::with_runs(8, 1, 1000)),
-        ("6509, 4 banks, 1000 steps", Board::with_runs(9, 4, 1000)),
-    ];
-    if !steps
-        .iter()
-        .all(|(name, board)| all_agree(name, board, agree))
-        || !runs
-            .iter()
-            .all(|(name, board)| all_agree(name, board, agree_in_runs))
-    {
+    let lines = main_lines();
+    if !lines.iter().all(|(name, board)| all_agree(name, board)) {
         return false;
     }
-    println!(
-        "{} steps and {} runs agree on each part",
-        AGREED_STEPS, AGREED_RUNS
-    );
-
-    let mut steps: Vec<Line> = steps.map(|(name, board)| Line::new(name, board)).into();
-    // No cost for what a step does not touch.
-    steps.push(Line::new("6509, 1 bank", Board::new(9, 1, 64)));
-    steps.push(Line::new("6509, 16 banks", Board::new(9, 16, 64)));
-    steps.push(Line::new("6502, room 56", Board::new(2, 1, 56)));
-    steps.push(Line::new("6502, room 65536", Board::new(2, 1, 65_536)));
-    let mut runs: Vec<Line> = runs.map(|(name, board)| Line::new(name, board)).into();
-    // The same cost for each step, however many there are.
-    runs.push(Line::new("6502, 10 steps", Board::with_runs(2, 1, 10)));
-    runs.push(Line::new("6502, 100 steps", Board::with_runs(2, 1, 100)));
-    runs.push(Line::new(
-        "6502, 10000 steps",
-        Board::with_runs(2, 1, 10_000),
-    ));
+    let mut lines: Vec<Line> = lines.into_iter().map(Line::new).collect();
+    lines.extend(further_lines().into_iter().map(Line::new));
     for _ in 0..ROUNDS {
-        steps.iter_mut().for_each(Line::take_turn);
-        runs.iter_mut().for_each(Line::take_turn);
+        lines.iter_mut().for_each(Line::take_turn);
     }
-    print_table("ns per step", &steps);
-    print_table("ns per instruction in runs", &runs);
+    print_heading();
+    lines.iter().for_each(Line::print);
     #[cfg(not(yardstick_only))]
     print_admissions();
     true
 }
 
+/// Plays a line of the table and no more, for who counts the host's instructions. False where there is no such line.
+pub fn play(core: Tested, name: &str, steps: u64) -> bool {
+    match main_lines().into_iter().find(|line| line.0 == name) {
+        Some((_, mut board)) => {
+            board.play(core, steps as usize);
+            true
+        }
+        None => false,
+    }
+}
+
+fn print_heading() {
+    let names: Vec<&str> = cores::all().iter().map(|core| core.name).collect();
+    print!("| ns an instruction |");
+    names.iter().for_each(|name| print!(" {} |", name));
+    names[1..]
+        .iter()
+        .for_each(|name| print!(" {} / {} |", names[0], name));
+    println!("\n|---|{}", "--:|".repeat(2 * names.len() - 1));
+}
+
 /// All rules are asked of each record where a map is admitted.
 #[cfg(not(yardstick_only))]
 fn print_admissions() {
-    println!("{:<28}{:>12}", "ns per map record", "archive");
     let mut draw = Draw::new(Random::new(1));
     for records in [100, 1_000, 8_192] {
         let firmware = draw.firmware(Shape {
@@ -201,40 +218,28 @@ fn print_admissions() {
             }
             least = least.min(start.elapsed().as_nanos() as f64 / (calls * records) as f64);
         }
-        println!("{:<28}{:>12.2}", format!("{} records", records), least);
+        println!("| a map record, of {} | {:.1} |", records, least);
     }
 }
 
-fn print_table(title: &str, lines: &[Line]) {
-    print!("{:<28}{:>12}", title, cores::all()[0].name);
-    for core in &cores::all()[1..] {
-        print!("{:>12}{:>12}", core.name, "ratio");
-    }
-    println!();
-    lines.iter().for_each(Line::print);
-}
-
-fn all_agree(name: &str, board: &Board, agree: fn(Tested, Board) -> bool) -> bool {
+fn all_agree(name: &str, board: &Board) -> bool {
     cores::all().iter().all(|&core| {
-        let is_same = agree(core, board.clone());
+        let is_same = match board.script.len() {
+            0 => agree(core, board.clone()),
+            _ => agree_in_runs(core, board.clone()),
+        };
         if !is_same {
-            println!("{} and second differ on the {}", core.name, name);
+            println!("{} and second differ on: {}", core.name, name);
         }
         is_same
     })
 }
 
-fn agree(core: Tested, mut mine: Board) -> bool {
-    let mut theirs = mine.clone();
+fn agree(core: Tested, board: Board) -> bool {
+    let mut pair = Pair::new(core, board.record, board.image, board.accesses.len());
     (0..AGREED_STEPS).all(|number| {
-        let my_word = step(&mut mine.record, &mut mine.image, 0, 0, &mut mine.accesses);
-        let (record, image) = (&mut theirs.record, &mut theirs.image);
-        let their_word = core.step(record, image, 0, 0, &mut theirs.accesses);
-        my_word == their_word
-            && my_word & 0xFF == 0
-            && mine.record == theirs.record
-            && mine.accesses == theirs.accesses
-            && (number % 1000 != 999 || mine.image == theirs.image)
+        let is_done = pair.step().map_or(false, |word| word & 0xFF == 0);
+        is_done && (number % 1000 != 999 || pair.compare_images().is_ok())
     })
 }
 
