@@ -8,6 +8,12 @@ pub const BANK: usize = 65_536;
 pub const MOST_ACCESSES: usize = 7;
 pub const ACCESS: usize = 8;
 
+/// An access as it is listed; `written` is 0 for a read, 1 for a write.
+pub fn access(bank: u8, address: u16, value: u8, written: u8) -> [u8; ACCESS] {
+    let [low, high] = address.to_le_bytes();
+    [low, high, bank, value, written, 0, 0, 0]
+}
+
 pub struct Bus<'a> {
     part: Part,
     pub registers: [u8; 2],
@@ -87,8 +93,7 @@ impl<'a> Bus<'a> {
     }
 
     fn note(&mut self, address: u16, value: u8, written: u8) {
-        let [low, high] = address.to_le_bytes();
-        let access = [low, high, self.bank(), value, written, 0, 0, 0];
+        let access = access(self.bank(), address, value, written);
         let start = self.listed * ACCESS;
         self.list[start..start + ACCESS].copy_from_slice(&access);
         self.listed += 1;

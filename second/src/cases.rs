@@ -9,7 +9,7 @@ pub use records::{fresh_record, malform, RECORD_FAULTS};
 use crate::bus::BANK;
 use crate::core::step;
 use crate::random::Random;
-use crate::record::D;
+use crate::record::{pc_of, D};
 
 /// Bytes after each lent slice, which nobody may touch.
 pub const GUARD: usize = 64;
@@ -252,7 +252,7 @@ impl Cases {
     }
 
     fn pc(&self) -> u16 {
-        u16::from_le_bytes([self.record[6], self.record[7]])
+        pc_of(&self.record)
     }
 
     /// None for a register.

@@ -131,13 +131,8 @@ impl Comparison {
         println!("refusals due       {:?}", numbers.collect::<Vec<u8>>());
         for (who, word, lent) in [("second", mine, &self.mine), (name, theirs, &self.theirs)] {
             let record = &lent.record[places.record..places.record + case.record_len];
-            println!("{:<10} word    {:X}", who, word);
-            println!("{:<10} record  {}", who, hex(record));
-            let count = ((word >> 8) as usize & 7) * usize::from(word & 0xFF == 0);
-            let list = &lent.accesses[places.accesses..places.accesses + case.room];
-            for access in list.chunks(ACCESS).take(count) {
-                println!("{:<10} access  {}", who, hex(access));
-            }
+            let accesses = &lent.accesses[places.accesses..places.accesses + case.room];
+            tell_step(who, word, record, accesses);
         }
         tell_first(
             "record byte",
@@ -171,6 +166,16 @@ fn answers_its_case(case: &Case, word: u64) -> bool {
     }
 }
 
+/// What one of two left of a step.
+pub fn tell_step(who: &str, word: u64, record: &[u8], accesses: &[u8]) {
+    println!("{:<10} word    {:X}", who, word);
+    println!("{:<10} record  {}", who, hex(record));
+    let count = ((word >> 8) as usize & 7) * usize::from(word & 0xFF == 0);
+    for access in accesses.chunks(ACCESS).take(count) {
+        println!("{:<10} access  {}", who, hex(access));
+    }
+}
+
 pub fn tell_first(what: &str, start: usize, mine: &[u8], theirs: &[u8]) {
     if let Some(at) = first_difference(mine, theirs) {
         println!(
@@ -183,7 +188,7 @@ pub fn tell_first(what: &str, start: usize, mine: &[u8], theirs: &[u8]) {
     }
 }
 
-fn first_difference(mine: &[u8], theirs: &[u8]) -> Option<usize> {
+pub fn first_difference(mine: &[u8], theirs: &[u8]) -> Option<usize> {
     mine.iter().zip(theirs).position(|(a, b)| a != b)
 }
 

@@ -1,6 +1,6 @@
 //! The examples of document 01 that are about a step.
 
-use crate::bus::{ACCESS, BANK};
+use crate::bus::{access, ACCESS, BANK};
 use crate::compare::hex;
 use crate::core::step;
 use crate::cores::Tested;
@@ -121,8 +121,8 @@ fn read_examples() -> Vec<Example> {
             "image" => example.image.push(cells(&digits)),
             "word" => example.word = number(&digits) as u64,
             "after" => example.after = digits,
-            "R" => example.list.push(access(&digits, 0)),
-            "W" => example.list.push(access(&digits, 1)),
+            "R" => example.list.push(listed(&digits, 0)),
+            "W" => example.list.push(listed(&digits, 1)),
             "changed" => example.changed.push(cells(&digits)),
             _ => panic!("no example has such a line: {}", line),
         }
@@ -150,6 +150,7 @@ fn cells(bytes: &[u8]) -> Cells {
 }
 
 /// From the bank, the address and the value.
-fn access(bytes: &[u8], written: u8) -> [u8; ACCESS] {
-    [bytes[2], bytes[1], bytes[0], bytes[3], written, 0, 0, 0]
+fn listed(bytes: &[u8], written: u8) -> [u8; ACCESS] {
+    let address = u16::from_be_bytes([bytes[1], bytes[2]]);
+    access(bytes[0], address, bytes[3], written)
 }

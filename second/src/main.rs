@@ -13,10 +13,14 @@ mod cores;
 mod coverage;
 mod examples;
 mod firmware;
+mod image;
 mod instructions;
+mod json;
 mod opcodes;
+mod pair;
 mod program;
 mod promise;
+mod published;
 mod random;
 mod record;
 mod report;
@@ -38,18 +42,30 @@ const USAGE: &str = "usage:
   second promise --steps N [--seed S] [--core CORE]
   second arithmetic [--core CORE]
   second examples [--core CORE]
-  second bench
+  second image --start HEX --success HEX [--load HEX] [--most N] [--core CORE] FILE
+  second json [--core CORE] FILE...
+  second bench [--core CORE --line LINE --steps N]
 
-CORE is archive, yardstick or per-part. Without it, compare, runs, promise and arithmetic take the archive, or the
-yardstick where the program was built without one, and examples takes every core. Only the archive has restart and
-admission.";
+CORE is archive, yardstick or per-part. Without it, compare, runs, promise, arithmetic, image and json take the archive,
+or the yardstick where the program was built without one, and examples takes every core. Only the archive has restart
+and admission. With a line of its table, bench plays that line and prints nothing.
 
+image plays a self-checking 6502 image until it stands still, which must be at --success. It is a file of 65,536 bytes,
+or one that goes to --load. json plays the cases of files in the published layout, an instruction each.";
+
+#[derive(Default)]
 struct Options {
     steps: Option<u64>,
     runs: Option<u64>,
     maps: Option<u64>,
     seed: Option<u64>,
     core: Option<cores::Tested>,
+    line: Option<String>,
+    start: Option<u16>,
+    success: Option<u16>,
+    load: Option<u16>,
+    most: Option<u64>,
+    files: Vec<String>,
 }
 
 fn main() {
@@ -62,6 +78,9 @@ fn main() {
     let core = options.core.unwrap_or(cores::all()[0]);
     let seed = options.seed.unwrap_or_else(seed_from_time);
     let counts = (options.steps, options.runs, options.maps);
+    if options.files.is_empty() == matches!(command.as_str(), "image" | "json") {
+        fail(USAGE);
+    }
     let passed = match (command.as_str(), counts) {
         ("compare", (Some(steps), None, None)) => compare::compare(core, steps, seed),
         ("runs", (None, Some(runs), None)) => runs::runs(core, runs, seed),
@@ -75,7 +94,13 @@ fn main() {
             Some(core) => examples::examples(&[core]),
             None => examples::examples(cores::all()),
         },
+        ("image", (None, None, None)) => image::image(core, &asked(&options)),
+        ("json", (None, None, None)) => published::published(core, &options.files),
         ("bench", (None, None, None)) => bench::bench(),
+        ("bench", (Some(steps), None, None)) => match &options.line {
+            Some(line) => bench::play(core, line, steps),
+            None => fail(USAGE),
+        },
         _ => fail(USAGE),
     };
     if !passed {
@@ -84,31 +109,49 @@ fn main() {
 }
 
 fn read_options(arguments: &[String]) -> Options {
-    let mut options = Options {
-        steps: None,
-        runs: None,
-        maps: None,
-        seed: None,
-        core: None,
-    };
-    for pair in arguments.chunks(2) {
-        let (name, value) = match pair {
-            [name, value] => (name.as_str(), value),
-            _ => fail(USAGE),
-        };
-        match name {
+    let mut options = Options::default();
+    let mut arguments = arguments.iter();
+    while let Some(name) = arguments.next() {
+        if !name.starts_with("--") {
+            options.files.push(name.clone());
+            continue;
+        }
+        let value = arguments.next().unwrap_or_else(|| fail(USAGE));
+        match name.as_str() {
             "--steps" => options.steps = Some(number(value)),
             "--runs" => options.runs = Some(number(value)),
             "--maps" => options.maps = Some(number(value)),
             "--seed" => options.seed = Some(number(value)),
+            "--line" => options.line = Some(value.clone()),
             "--core" => match cores::named(value) {
                 Some(core) => options.core = Some(core),
                 None => fail("this program was not built with such a core"),
             },
+            "--start" => options.start = Some(address(value)),
+            "--success" => options.success = Some(address(value)),
+            "--load" => options.load = Some(address(value)),
+            "--most" => options.most = Some(number(value)),
             _ => fail(USAGE),
         }
     }
     options
+}
+
+fn asked(options: &Options) -> image::Asked<'_> {
+    match (&options.files[..], options.start, options.success) {
+        ([file], Some(start), Some(success)) => image::Asked {
+            file,
+            load: options.load,
+            start,
+            success,
+            most: options.most.unwrap_or(image::MOST_STEPS),
+        },
+        _ => fail(USAGE),
+    }
+}
+
+fn address(text: &str) -> u16 {
+    u16::from_str_radix(text, 16).unwrap_or_else(|_| fail(USAGE))
 }
 
 fn number(text: &str) -> u64 {

@@ -32,6 +32,17 @@ pub struct Record {
     pub cycles: u32,
 }
 
+/// The bytes of a 6502 without protected pages that has not counted a cycle yet.
+pub fn of_6502([a, x, y, s, p]: [u8; 5], pc: u16) -> [u8; 16] {
+    let [low, high] = pc.to_le_bytes();
+    [2, a, x, y, s, p, low, high, 0, 0, 0, 0, 0, 0, 0, 0]
+}
+
+/// Where the program counter of a record's bytes is.
+pub fn pc_of(record: &[u8]) -> u16 {
+    u16::from_le_bytes([record[6], record[7]])
+}
+
 impl Record {
     /// Fails with the refusal's number, 1 or 2.
     pub fn read(bytes: &[u8]) -> Result<Record, u64> {
@@ -51,7 +62,7 @@ impl Record {
             y: bytes[3],
             s: bytes[4],
             p: bytes[5],
-            pc: u16::from_le_bytes([bytes[6], bytes[7]]),
+            pc: pc_of(bytes),
             registers: [bytes[8], bytes[9]],
             nmi_level: bytes[10],
             protected_pages: bytes[11],
