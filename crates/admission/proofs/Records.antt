@@ -39,7 +39,7 @@ module _ (m : List ℕ) (c : ℕ) (map : List ℕ) (i : ℕ) (k : Mark) (here : 
 
   module _
       (kept : 256 - c ≤ k .address / 256) (e n : ℕ) (entry : (e ≡ numberOf (decode (at m (k .address)))) × (at m (k .address) < 256))
-      (size : n ≡ (if eqb e 240 then 3 else fetched e))
+      (size : n ≡ (if eqb e 246 then 3 else fetched e))
     where
       byte : opcode < 256
       byte = rw here at (entry .1)

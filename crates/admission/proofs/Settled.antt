@@ -6,8 +6,9 @@ use mathlib.Core.List.{List, [], _∷_, _++_}
 use lib.Dec.{leb, eqb}
 use Rattle.rules.specs.declared.Mode.{Mode}
 use Rattle.rules.specs.declared.Mode.the-variants.{Immediate, Zero, ZeroX, ZeroY, Absolute, AbsoluteX, AbsoluteY, IndirectX, IndirectY, IndirectBankY}
+use Rattle.rules.specs.declared.Stacking.the-variants.{Php, Plp, Pha, Pla, Rts, Rti}
 use Rattle.rules.specs.declared.Instruction.{Instruction}
-use Rattle.rules.specs.declared.Instruction.the-variants.{Read, Store, Change, Accumulator, Implied, Branch, Jump, JumpIndirect, Jsr, Rts, Rti, Brk, Php, Plp, Pha, Pla, Txs, Cli}
+use Rattle.rules.specs.declared.Instruction.the-variants.{Read, Store, Change, Accumulator, Implied, AtStack, Branch, Jump, JumpIndirect, Jsr, Brk, Txs, Cli}
 use Rattle.rules.specs.declared.Refusal.{Refusal}
 use Rattle.rules.specs.declared.Refusal.the-variants.{StoreAddress, Stack}
 use Rattle.rules.specs.declared.Verdict.{Verdict}
@@ -59,16 +60,16 @@ module _ (map : List ℕ) (i : ℕ) where
     rules-are (Change o md) v = tested-append (storeTests i md) _ Barred v ∙ stored-is md _ v
     rules-are (Accumulator o) v = refl
     rules-are (Implied o) v = refl
+    rules-are (AtStack Php) v = refl
+    rules-are (AtStack Plp) v = refl
+    rules-are (AtStack Pha) v = refl
+    rules-are (AtStack Pla) v = settled-unless (leb 1 (here .height)) (Stack i) (one (goesTo here on (here .height - 1) 0 (here .need + 1))) v
+    rules-are (AtStack Rts) v = settled-unless (isAtZero here routine) (Stack i) (Leads 0 (goesOn here on) (goesOn here on)) v
+    rules-are (AtStack Rti) v = settled-unless (isAtZero here handler) (Stack i) (Leads 0 (goesOn here on) (goesOn here on)) v
     rules-are (Branch t o) v = refl
     rules-are (Jump a) v = refl
     rules-are (JumpIndirect a) v = refl
     rules-are (Jsr low) v = refl
-    rules-are Rts v = settled-unless (isAtZero here routine) (Stack i) (Leads 0 (goesOn here on) (goesOn here on)) v
-    rules-are Rti v = settled-unless (isAtZero here handler) (Stack i) (Leads 0 (goesOn here on) (goesOn here on)) v
     rules-are Brk v = refl
-    rules-are Php v = refl
-    rules-are Plp v = refl
-    rules-are Pha v = refl
-    rules-are Pla v = settled-unless (leb 1 (here .height)) (Stack i) (one (goesTo here on (here .height - 1) 0 (here .need + 1))) v
     rules-are Txs v = settled-unless (isAtZero here main) (Stack i) (one (goesOn here on)) v
     rules-are Cli v = settled-unless (eqb (here .kind) main) (Stack i) (one (goesOn here on)) v

@@ -55,7 +55,7 @@ fn vectors_hold(image: &[u8], map: &[u8]) -> bool
 
 // How many bytes an instruction is long. JSR's high operand is fetched by the instruction itself.
 fn size_of(entry: u8) -> u16
-    ensures { λ r. ⌜ r ≡ (if eqb entry 240 then 3 else fetched entry) ⌝ }
+    ensures { λ r. ⌜ r ≡ (if eqb entry 246 then 3 else fetched entry) ⌝ }
 {
     if entry == table::JSR {
         return 3;

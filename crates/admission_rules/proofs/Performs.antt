@@ -15,8 +15,9 @@ use Rattle.rules.specs.declared.Storing.{Storing}
 use Rattle.rules.specs.declared.Changing.{Changing}
 use Rattle.rules.specs.declared.Internal.{Internal}
 use Rattle.rules.specs.declared.Condition.{Condition}
+use Rattle.rules.specs.declared.Stacking.the-variants.{Php, Plp, Pha, Pla, Rts, Rti}
 use Rattle.rules.specs.declared.Instruction.{Instruction}
-use Rattle.rules.specs.declared.Instruction.the-variants.{Read, Store, Change, Accumulator, Implied, Branch, Jump, JumpIndirect, Jsr, Rts, Rti, Brk, Php, Plp, Pha, Pla, Txs, Cli}
+use Rattle.rules.specs.declared.Instruction.the-variants.{Read, Store, Change, Accumulator, Implied, AtStack, Branch, Jump, JumpIndirect, Jsr, Brk, Txs, Cli}
 use Rattle.rules.specs.Basics.{if_then_else_, at, address, sum8, sum16}
 use Rattle.rules.specs.Cycles.{Cycles, _>>=_}
 use Rattle.rules.specs.Flags.{byteOf4, flagsOf}
@@ -198,7 +199,7 @@ module _ (m₀ : List ℕ) (c : ℕ) (map : List ℕ) (ad : Admitted m₀ c map)
               };
         })
 
-    does-pla : Rules Pla → Does Pla
+    does-pla : Rules (AtStack Pla) → Does (AtStack Pla)
     unfolding rulesOf perform pull ends _>>=_
     does-pla t =
         record {
@@ -219,7 +220,7 @@ module _ (m₀ : List ℕ) (c : ℕ) (map : List ℕ) (ad : Admitted m₀ c map)
         let z = eqb (mark .height) 0 in
         (eqb-true _ _ (and-left a z h), eqb-true _ _ (and-right a z h))
 
-    does-rts : Rules Rts → Does Rts
+    does-rts : Rules (AtStack Rts) → Does (AtStack Rts)
     unfolding rulesOf perform rts ends _>>=_
     does-rts t =
         let z = at-zero routine (t .0) in
@@ -233,7 +234,7 @@ module _ (m₀ : List ℕ) (c : ℕ) (map : List ℕ) (ad : Admitted m₀ c map)
               };
         }
 
-    does-rti : Rules Rti → Does Rti
+    does-rti : Rules (AtStack Rti) → Does (AtStack Rti)
     unfolding rulesOf perform rti ends _>>=_
     does-rti t =
         let z = at-zero handler (t .0) in
@@ -321,16 +322,16 @@ module _ (m₀ : List ℕ) (c : ℕ) (map : List ℕ) (ad : Admitted m₀ c map)
     performs (Change o d) wide x e h t = does-change o d (small wide x d e h) t
     performs (Accumulator o) wide x e h t = does-accumulator o t
     performs (Implied o) wide x e h t = does-implied o t
+    performs (AtStack Php) wide x e h t = does-push (byteOf4 (u .p)) (p-byte (u .p)) (leads-to map n (mark .kind) (mark .height + 1) 1 (mark .need) (t .0))
+    performs (AtStack Plp) wide x e h t = absurd (false≢true (t .0))
+    performs (AtStack Pha) wide x e h t = does-push (u .a) (g .registers .a) (leads-to map n (mark .kind) (mark .height + 1) 1 (mark .need) (t .0))
+    performs (AtStack Pla) wide x e h t = does-pla t
+    performs (AtStack Rts) wide x e h t = does-rts t
+    performs (AtStack Rti) wide x e h t = does-rti t
     performs (Branch y o) wide x e h t = does-branch y o t
     performs (Jump a) wide x e h t = does-jump a t
     performs (JumpIndirect a) wide x e h t = absurd (false≢true (t .0))
     performs (Jsr low) wide x e h t = absurd (omega arith)
-    performs Rts wide x e h t = does-rts t
-    performs Rti wide x e h t = does-rti t
     performs Brk wide x e h t = absurd (false≢true (t .0))
-    performs Php wide x e h t = does-push (byteOf4 (u .p)) (p-byte (u .p)) (leads-to map n (mark .kind) (mark .height + 1) 1 (mark .need) (t .0))
-    performs Plp wide x e h t = absurd (false≢true (t .0))
-    performs Pha wide x e h t = does-push (u .a) (g .registers .a) (leads-to map n (mark .kind) (mark .height + 1) 1 (mark .need) (t .0))
-    performs Pla wide x e h t = does-pla t
     performs Txs wide x e h t = does-txs t
     performs Cli wide x e h t = does-cli t

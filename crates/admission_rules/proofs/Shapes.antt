@@ -10,7 +10,7 @@ use Rattle.rules.specs.declared.Cpu.{Cpu}
 use Rattle.rules.specs.declared.Mode.{Mode}
 use Rattle.rules.specs.declared.Mode.the-variants.{Immediate, Zero, ZeroX, ZeroY, Absolute, AbsoluteX, AbsoluteY, IndirectX, IndirectY, IndirectBankY}
 use Rattle.rules.specs.declared.Instruction.{Instruction}
-use Rattle.rules.specs.declared.Instruction.the-variants.{Read, Store, Change, Accumulator, Implied, Branch, Jump, JumpIndirect, Jsr, Rts, Rti, Brk, Php, Plp, Pha, Pla, Txs, Cli}
+use Rattle.rules.specs.declared.Instruction.the-variants.{Read, Store, Change, Accumulator, Implied, AtStack, Branch, Jump, JumpIndirect, Jsr, Brk, Txs, Cli}
 use Rattle.rules.specs.Basics.{if_then_else_, at, sum16}
 use Rattle.rules.specs.Cycles.{_>>=_}
 use Rattle.rules.specs.Opcodes.{Entry, undefined, alone, byte, word, late, Row, rows, among, decode, isDefined, ofInstruction}
@@ -42,17 +42,12 @@ gives wide v (Store o d) = modeGives wide v d
 gives wide v (Change o d) = modeGives wide v d
 gives wide v (Accumulator o) = v
 gives wide v (Implied o) = v
+gives wide v (AtStack o) = v
 gives wide v (Branch t o) = v
 gives wide v (Jump a) = v
 gives wide v (JumpIndirect a) = v
 gives wide v (Jsr low) = suc v
-gives wide v Rts = v
-gives wide v Rti = v
 gives wide v Brk = v
-gives wide v Php = v
-gives wide v Plp = v
-gives wide v Pha = v
-gives wide v Pla = v
 gives wide v Txs = v
 gives wide v Cli = v
 

@@ -6,8 +6,9 @@ use lib.Dec.{ltb, leb, eqb}
 use lib.ListN.{length}
 use Rattle.rules.specs.declared.Mode.{Mode}
 use Rattle.rules.specs.declared.Mode.the-variants.{Immediate, Zero, ZeroX, ZeroY, Absolute, AbsoluteX, AbsoluteY, IndirectX, IndirectY, IndirectBankY}
+use Rattle.rules.specs.declared.Stacking.the-variants.{Php, Plp, Pha, Pla, Rts, Rti}
 use Rattle.rules.specs.declared.Instruction.{Instruction}
-use Rattle.rules.specs.declared.Instruction.the-variants.{Read, Store, Change, Accumulator, Implied, Branch, Jump, JumpIndirect, Jsr, Rts, Rti, Brk, Php, Plp, Pha, Pla, Txs, Cli}
+use Rattle.rules.specs.declared.Instruction.the-variants.{Read, Store, Change, Accumulator, Implied, AtStack, Branch, Jump, JumpIndirect, Jsr, Brk, Txs, Cli}
 use Rattle.rules.specs.declared.Refusal.the-variants.{Admission, MapRecord, Vectors, Place, StoreAddress, Stack, Successor}
 use Rattle.rules.specs.declared.Verdict.{Verdict}
 use Rattle.rules.specs.declared.Verdict.the-variants.{Accepted, Barred}
@@ -150,17 +151,17 @@ module _ {M : Type 0} (memory : Memory M) (m : M) (c : ℕ) (map : List ℕ) whe
     rulesOf (Change o md) = storeTests i md ++ goesOn next ∷ []
     rulesOf (Accumulator o) = goesOn next ∷ []
     rulesOf (Implied o) = goesOn next ∷ []
+    rulesOf (AtStack Php) = goesUp ∷ []
+    rulesOf (AtStack Plp) = Place i unless false ∷ []
+    rulesOf (AtStack Pha) = goesUp ∷ []
+    rulesOf (AtStack Pla) = Stack i unless leb 1 (mark .height) ∷ goesDown ∷ []
+    rulesOf (AtStack Rts) = Stack i unless isAtZero routine ∷ []
+    rulesOf (AtStack Rti) = Stack i unless isAtZero handler ∷ []
     rulesOf (Branch t o) = goesOn next ∷ goesOn (target next o) ∷ []
     rulesOf (Jump a) = goesOn a ∷ []
     rulesOf (JumpIndirect a) = Place i unless false ∷ []
     rulesOf (Jsr low) = goesOn next ∷ calls ∷ []
-    rulesOf Rts = Stack i unless isAtZero routine ∷ []
-    rulesOf Rti = Stack i unless isAtZero handler ∷ []
     rulesOf Brk = Place i unless false ∷ []
-    rulesOf Php = goesUp ∷ []
-    rulesOf Plp = Place i unless false ∷ []
-    rulesOf Pha = goesUp ∷ []
-    rulesOf Pla = Stack i unless leb 1 (mark .height) ∷ goesDown ∷ []
     rulesOf Txs = Stack i unless isAtZero main ∷ goesOn next ∷ []
     rulesOf Cli = Stack i unless eqb (mark .kind) main ∷ goesOn next ∷ []
 

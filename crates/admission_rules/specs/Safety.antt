@@ -6,8 +6,9 @@ use mathlib.Core.List.{List, [], _∷_}
 use lib.Dec.{eqb}
 use lib.ListN.{length, drop}
 use Rattle.rules.specs.declared.State.{State}
+use Rattle.rules.specs.declared.Stacking.the-variants.{Php, Plp, Pha, Pla, Rts, Rti}
 use Rattle.rules.specs.declared.Instruction.{Instruction}
-use Rattle.rules.specs.declared.Instruction.the-variants.{Read, Store, Change, Accumulator, Implied, Branch, Jump, JumpIndirect, Jsr, Rts, Rti, Brk, Php, Plp, Pha, Pla, Txs, Cli}
+use Rattle.rules.specs.declared.Instruction.the-variants.{Read, Store, Change, Accumulator, Implied, AtStack, Branch, Jump, JumpIndirect, Jsr, Brk, Txs, Cli}
 use Rattle.rules.specs.declared.StepAnswer.{StepAnswer}
 use Rattle.rules.specs.declared.StepAnswer.the-variants.{Stepped}
 use Rattle.rules.specs.declared.RunAnswer.the-variants.{Played}
@@ -39,17 +40,17 @@ effectOf (Store o m) = none
 effectOf (Change o m) = none
 effectOf (Accumulator o) = none
 effectOf (Implied o) = none
+effectOf (AtStack Php) = pushes 1
+effectOf (AtStack Plp) = none
+effectOf (AtStack Pha) = pushes 1
+effectOf (AtStack Pla) = pulls 1
+effectOf (AtStack Rts) = pulls 2
+effectOf (AtStack Rti) = pulls 3
 effectOf (Branch t o) = none
 effectOf (Jump a) = none
 effectOf (JumpIndirect a) = none
 effectOf (Jsr low) = pushes 2
-effectOf Rts = pulls 2
-effectOf Rti = pulls 3
 effectOf Brk = none
-effectOf Php = pushes 1
-effectOf Plp = none
-effectOf Pha = pushes 1
-effectOf Pla = pulls 1
 effectOf Txs = clears
 effectOf Cli = none
 

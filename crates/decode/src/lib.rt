@@ -6,9 +6,10 @@ use rules::Instruction;
 use rules::Internal;
 use rules::Mode;
 use rules::Reading;
+use rules::Stacking;
 use rules::Storing;
 ghost use mathlib.Core.Path.{_≡_};
-ghost use Rattle.table.specs.Numbers.{readingOf, storingOf, changingOf, internalOf, conditionOf, modeOf, singleOf, withMode, made};
+ghost use Rattle.table.specs.Numbers.{readingOf, storingOf, changingOf, internalOf, stackingOf, conditionOf, modeOf, singleOf, withMode, made};
 
 fn reading(n: u8) -> Reading
     ensures { λ r. ⌜ r ≡ readingOf n ⌝ }
@@ -75,6 +76,19 @@ fn internal(n: u8) -> Internal
     }
 }
 
+fn stacking(n: u8) -> Stacking
+    ensures { λ r. ⌜ r ≡ stackingOf n ⌝ }
+{
+    match n {
+        0 => Stacking::Php,
+        1 => Stacking::Plp,
+        2 => Stacking::Pha,
+        3 => Stacking::Pla,
+        4 => Stacking::Rts,
+        _ => Stacking::Rti,
+    }
+}
+
 fn condition(n: u8) -> Condition
     ensures { λ r. ⌜ r ≡ conditionOf n ⌝ }
 {
@@ -114,14 +128,8 @@ fn single(n: u8, low: u8, high: u8) -> Instruction
         0 => Instruction::Jump(bytes::join(low, high)),
         1 => Instruction::JumpIndirect(bytes::join(low, high)),
         2 => Instruction::Jsr(low),
-        3 => Instruction::Rts,
-        4 => Instruction::Rti,
-        5 => Instruction::Brk,
-        6 => Instruction::Php,
-        7 => Instruction::Plp,
-        8 => Instruction::Pha,
-        9 => Instruction::Pla,
-        10 => Instruction::Txs,
+        3 => Instruction::Brk,
+        4 => Instruction::Txs,
         _ => Instruction::Cli,
     }
 }
@@ -149,8 +157,11 @@ pub fn instruction_of(entry: u8, low: u8, high: u8) -> Instruction
     if entry < table::CLC {
         return Instruction::Accumulator(changing(entry - table::ASL_A));
     }
-    if entry < table::BPL {
+    if entry < table::PHP {
         return Instruction::Implied(internal(entry - table::CLC));
+    }
+    if entry < table::BPL {
+        return Instruction::AtStack(stacking(entry - table::PHP));
     }
     if entry < table::JMP {
         return Instruction::Branch(condition(entry - table::BPL), low);

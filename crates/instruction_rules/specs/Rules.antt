@@ -4,8 +4,9 @@ use mathlib.Core.Bool.{Bool, not, _&&_}
 use lib.Dec.{leb, eqb}
 use Rattle.rules.specs.declared.Mode.{Mode}
 use Rattle.rules.specs.declared.Mode.the-variants.{Immediate, Zero, ZeroX, ZeroY, Absolute, AbsoluteX, AbsoluteY, IndirectX, IndirectY, IndirectBankY}
+use Rattle.rules.specs.declared.Stacking.the-variants.{Php, Plp, Pha, Pla, Rts, Rti}
 use Rattle.rules.specs.declared.Instruction.{Instruction}
-use Rattle.rules.specs.declared.Instruction.the-variants.{Read, Store, Change, Accumulator, Implied, Branch, Jump, JumpIndirect, Jsr, Rts, Rti, Brk, Php, Plp, Pha, Pla, Txs, Cli}
+use Rattle.rules.specs.declared.Instruction.the-variants.{Read, Store, Change, Accumulator, Implied, AtStack, Branch, Jump, JumpIndirect, Jsr, Brk, Txs, Cli}
 use Rattle.rules.specs.declared.Refusal.{Refusal}
 use Rattle.rules.specs.declared.Refusal.the-variants.{Place, StoreAddress, Stack}
 use Rattle.rules.specs.Basics.{if_then_else_}
@@ -70,16 +71,16 @@ module _ (m : Mark) where
     rulesFor (Change o md) = stored md i on
     rulesFor (Accumulator o) = on
     rulesFor (Implied o) = on
+    rulesFor (AtStack Php) = up
+    rulesFor (AtStack Plp) = Broken (Place i)
+    rulesFor (AtStack Pha) = up
+    rulesFor (AtStack Pla) = pulled next i
+    rulesFor (AtStack Rts) = rulesUnless (isAtZero routine) (Stack i) last
+    rulesFor (AtStack Rti) = rulesUnless (isAtZero handler) (Stack i) last
     rulesFor (Branch t o) = Leads 2 (goesOn next) (goesOn (target next o))
     rulesFor (Jump a) = one (goesOn a)
     rulesFor (JumpIndirect a) = Broken (Place i)
     rulesFor (Jsr low) = Leads 2 (goesOn next) (calls call)
-    rulesFor Rts = rulesUnless (isAtZero routine) (Stack i) last
-    rulesFor Rti = rulesUnless (isAtZero handler) (Stack i) last
     rulesFor Brk = Broken (Place i)
-    rulesFor Php = up
-    rulesFor Plp = Broken (Place i)
-    rulesFor Pha = up
-    rulesFor Pla = pulled next i
     rulesFor Txs = rulesUnless (isAtZero main) (Stack i) on
     rulesFor Cli = rulesUnless (eqb (m .kind) main) (Stack i) on

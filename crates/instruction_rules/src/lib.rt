@@ -2,9 +2,11 @@
 
 use marks::Mark;
 use rules::Refusal;
+ghost use Prim.Native.Nat.{ℕ};
 ghost use mathlib.Core.Path.{_≡_};
+ghost use Rattle.rules.specs.declared.Instruction.the-variants.{AtStack};
 ghost use Rattle.rules.specs.Basics.{address};
-ghost use Rattle.table.specs.Numbers.{modeOf, singleOf, made};
+ghost use Rattle.table.specs.Numbers.{modeOf, stackingOf, singleOf, made};
 ghost use Rattle.instruction_rules.specs.Rules.{goesTo, goesOn, one, rulesUnless, outside, stored, isAtZero, pulled, calls, rulesFor};
 
 // What is asked of a successor: to be marked with this kind and height, and a need that with `more` is at most `limit`.
@@ -121,37 +123,47 @@ fn calls(m: Mark, routine: u16) -> Successor
     }
 }
 
-// The rules of what has neither a mode nor a condition and is not done inside: each has its own. n is the number of its entry from JMP on.
+// The rules of what is done at the stack. n is the number of its entry from PHP on.
+fn rules_for_stacking(n: u8, m: Mark, next: u16, i: u16) -> Rules
+    ensures { λ r. ⌜ ((call : ℕ) → r ≡ rulesFor m next call i (AtStack (stackingOf n))) ⌝ }
+{
+    let last = goes_on(m, next);
+    let up = goes_to(m, next, m.height as u16 + 1, 1, m.need as u16);
+    match n {
+        // PHP, PLP, PHA, PLA
+        0 => one(up),
+        1 => Rules::Broken(Refusal::Place(i)),
+        2 => one(up),
+        3 => pulled(m, next, i),
+        // RTS, RTI
+        4 => unless(
+            is_at_zero(m, marks::ROUTINE),
+            Refusal::Stack(i),
+            Rules::Leads(0, last, last),
+        ),
+        _ => unless(
+            is_at_zero(m, marks::HANDLER),
+            Refusal::Stack(i),
+            Rules::Leads(0, last, last),
+        ),
+    }
+}
+
+// The rules of what has neither a mode nor a condition and is done neither inside nor at the stack: each has its own. n is the number of
+// its entry from JMP on.
 fn rules_for_single(n: u8, low: u8, high: u8, m: Mark, next: u16, i: u16) -> Rules
     ensures { λ r. ⌜ r ≡ rulesFor m next (address low high) i (singleOf n low high) ⌝ }
 {
     let a = bytes::join(low, high);
     let on = goes_on(m, next);
-    let up = goes_to(m, next, m.height as u16 + 1, 1, m.need as u16);
     match n {
-        // JMP a, JMP (a), JSR
+        // JMP a, JMP (a), JSR, BRK
         0 => one(goes_on(m, a)),
         1 => Rules::Broken(Refusal::Place(i)),
         2 => Rules::Leads(2, on, calls(m, a)),
-        // RTS, RTI, BRK
-        3 => unless(
-            is_at_zero(m, marks::ROUTINE),
-            Refusal::Stack(i),
-            Rules::Leads(0, on, on),
-        ),
-        4 => unless(
-            is_at_zero(m, marks::HANDLER),
-            Refusal::Stack(i),
-            Rules::Leads(0, on, on),
-        ),
-        5 => Rules::Broken(Refusal::Place(i)),
-        // PHP, PLP, PHA, PLA
-        6 => one(up),
-        7 => Rules::Broken(Refusal::Place(i)),
-        8 => one(up),
-        9 => pulled(m, next, i),
+        3 => Rules::Broken(Refusal::Place(i)),
         // TXS, CLI
-        10 => unless(is_at_zero(m, marks::MAIN), Refusal::Stack(i), one(on)),
+        4 => unless(is_at_zero(m, marks::MAIN), Refusal::Stack(i), one(on)),
         _ => unless(m.kind == marks::MAIN, Refusal::Stack(i), one(on)),
     }
 }
@@ -167,8 +179,11 @@ pub fn rules_for(entry: u8, low: u8, high: u8, m: Mark, next: u16, i: u16) -> Ru
         }
         return stored(entry / table::MODE, low, high, i, one(on));
     }
-    if entry < table::BPL {
+    if entry < table::PHP {
         return one(on);
+    }
+    if entry < table::BPL {
+        return rules_for_stacking(entry - table::PHP, m, next, i);
     }
     if entry < table::JMP {
         return Rules::Leads(2, on, goes_on(m, bytes::target(next, low)));

@@ -11,8 +11,9 @@ use Rattle.rules.specs.declared.Cpu.{Cpu}
 use Rattle.rules.specs.declared.State.{State}
 use Rattle.rules.specs.declared.Mode.{Mode}
 use Rattle.rules.specs.declared.Mode.the-variants.{Immediate, Zero, ZeroX, ZeroY, Absolute, AbsoluteX, AbsoluteY, IndirectX, IndirectY, IndirectBankY}
+use Rattle.rules.specs.declared.Stacking.the-variants.{Php, Plp, Pha, Pla, Rts, Rti}
 use Rattle.rules.specs.declared.Instruction.{Instruction}
-use Rattle.rules.specs.declared.Instruction.the-variants.{Read, Store, Change, Accumulator, Implied, Branch, Jump, JumpIndirect, Jsr, Rts, Rti, Brk, Php, Plp, Pha, Pla, Txs, Cli}
+use Rattle.rules.specs.declared.Instruction.the-variants.{Read, Store, Change, Accumulator, Implied, AtStack, Branch, Jump, JumpIndirect, Jsr, Brk, Txs, Cli}
 use Rattle.rules.specs.Basics.{if_then_else_, address}
 use Rattle.rules.specs.Cycles.{Bank, execution, indirect, _>>=_, Device, run}
 use Rattle.rules.specs.Opcodes.{Entry, undefined, alone, byte, word, late, Row, rows, among, decode, isDefined}
@@ -57,17 +58,17 @@ instructionMost (Store o m) = placeMost m + 1
 instructionMost (Change o m) = placeMost m + 3
 instructionMost (Accumulator o) = 0
 instructionMost (Implied o) = 0
+instructionMost (AtStack Php) = 1
+instructionMost (AtStack Plp) = 2
+instructionMost (AtStack Pha) = 1
+instructionMost (AtStack Pla) = 2
+instructionMost (AtStack Rts) = 4
+instructionMost (AtStack Rti) = 4
 instructionMost (Branch t o) = 2
 instructionMost (Jump a) = 0
 instructionMost (JumpIndirect a) = 2
 instructionMost (Jsr low) = 4
-instructionMost Rts = 4
-instructionMost Rti = 4
 instructionMost Brk = 5
-instructionMost Php = 1
-instructionMost Plp = 2
-instructionMost Pha = 1
-instructionMost Pla = 2
 instructionMost Txs = 0
 instructionMost Cli = 0
 
@@ -112,17 +113,17 @@ perform-most (Store o m) c = most-bind (placeMost m) 1 (place c m) _ (place-most
 perform-most (Change o m) c = most-bind (placeMost m) 3 (place c m) _ (place-most c m) (λ p v. tt)
 perform-most (Accumulator o) c = tt
 perform-most (Implied o) c = tt
+perform-most (AtStack Php) c = tt
+perform-most (AtStack Plp) c = λ v p. tt
+perform-most (AtStack Pha) c = tt
+perform-most (AtStack Pla) c = λ v p. tt
+perform-most (AtStack Rts) c = λ v low high w. tt
+perform-most (AtStack Rti) c = λ v p low high. tt
 perform-most (Branch t o) c = most-if 2 (taken t (c .p)) _ _ (branch-most (target (c .pc) o) c) tt
 perform-most (Jump a) c = tt
 perform-most (JumpIndirect a) c = λ low high. tt
 perform-most (Jsr low) c = λ v high. tt
-perform-most Rts c = λ v low high w. tt
-perform-most Rti c = λ v p low high. tt
 perform-most Brk c = λ low high. tt
-perform-most Php c = tt
-perform-most Plp c = λ v p. tt
-perform-most Pha c = tt
-perform-most Pla c = λ v p. tt
 perform-most Txs c = tt
 perform-most Cli c = tt
 

@@ -3,7 +3,7 @@ use Prim.Native.Nat.{ℕ, _+_}
 use mathlib.Core.Bool.{Bool, true}
 use lib.Dec.{leb}
 use Rattle.rules.specs.declared.Instruction.{Instruction}
-use Rattle.rules.specs.declared.Instruction.the-variants.{Read, Store, Change, Accumulator, Implied, Branch, Jump, JumpIndirect, Jsr, Rts, Rti, Brk, Php, Plp, Pha, Pla, Txs, Cli}
+use Rattle.rules.specs.declared.Instruction.the-variants.{Read, Store, Change, Accumulator, Implied, AtStack, Branch, Jump, JumpIndirect, Jsr, Brk, Txs, Cli}
 use Rattle.addressing.specs.Start.{fetchedOf}
 use Rattle.laws.proofs.Lengths.{placeMost}
 
@@ -14,17 +14,12 @@ begun (Store o m) = fetchedOf m
 begun (Change o m) = fetchedOf m
 begun (Accumulator o) = 2
 begun (Implied o) = 2
+begun (AtStack o) = 2
 begun (Branch t o) = 2
 begun (Jump a) = 3
 begun (JumpIndirect a) = 3
 begun (Jsr low) = 2
-begun Rts = 2
-begun Rti = 2
 begun Brk = 2
-begun Php = 2
-begun Plp = 2
-begun Pha = 2
-begun Pla = 2
 begun Txs = 2
 begun Cli = 2
 
@@ -35,16 +30,11 @@ short (Store o m) = true
 short (Change o m) = leb (fetchedOf m + placeMost m) 4
 short (Accumulator o) = true
 short (Implied o) = true
+short (AtStack o) = true
 short (Branch t o) = true
 short (Jump a) = true
 short (JumpIndirect a) = true
 short (Jsr low) = true
-short Rts = true
-short Rti = true
 short Brk = true
-short Php = true
-short Plp = true
-short Pha = true
-short Pla = true
 short Txs = true
 short Cli = true

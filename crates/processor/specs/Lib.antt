@@ -1,3 +1,2 @@
 pub mod Begun
-pub mod Pulled
 pub mod Rewritten

@@ -12,24 +12,21 @@ ghost use Prim.Native.Nat.{_+_, _*_, _≤_, _<_};
 ghost use mathlib.Core.Path.{_≡_};
 ghost use lib.ListN.{length};
 ghost use Rattle.rules.specs.declared.State.{State};
-ghost use Rattle.rules.specs.declared.Instruction.the-variants.{Read, Store, Change, Branch, Php, Plp, Pha, Pla};
+ghost use Rattle.rules.specs.declared.Instruction.the-variants.{Read, Store, Change, Branch};
 ghost use Rattle.rules.specs.Cycles.{execution, read, done};
 ghost use Rattle.rules.specs.Bus.{world, images, look};
 ghost use Rattle.rules.specs.Record.{recordOf};
-ghost use Rattle.rules.specs.Basics.{sum8};
 ghost use Rattle.rules.specs.Addressing.{bankOf};
 ghost use Rattle.rules.specs.Arithmetic.{changed};
-ghost use Rattle.rules.specs.Operations.{withP, withS, withPc, withResult, registerOf, taken, stack, push, jsr, rts, rti, jumpIndirect, perform, next, operate};
+ghost use Rattle.rules.specs.Operations.{withP, withS, withResult, registerOf, taken, jsr, jumpIndirect, perform, next, operate};
 ghost use Rattle.rules.specs.Opcodes.{decode, isDefined};
 ghost use Rattle.table.specs.Numbers.{numberOf};
 ghost use Rattle.rules.specs.Flags.{withI};
 ghost use Rattle.state.specs.Makes.{Makes};
 ghost use Rattle.wiring.specs.Wiring.{Stands, Ready};
 ghost use Rattle.bus.specs.Goes.{Goes, Does};
-ghost use Rattle.stack.specs.Words.{wordAt};
 ghost use Rattle.addressing.specs.Start.{fetchedOf};
 ghost use Rattle.laws.proofs.Lengths.{placeMost};
-ghost use Rattle.processor.specs.Pulled.{pulledAt};
 ghost use Rattle.processor.specs.Rewritten.{rewritten};
 ghost use Rattle.processor.specs.Begun.{begun, short};
 ghost use mathlib.Core.Bool.{true, false};
@@ -176,80 +173,6 @@ fn read_into(
     got.count
 }
 
-// "Push: PC+1, write at S."
-fn push(v: u8, state: &mut [u8], w: Wiring, image: &mut [u8], list: &mut [u8])
-    requires { ⌜ Ready w (length (now state)) (length (now image)) (length (now list)) ⌝ }
-    ensures { λ r. ⌜ ((s : State) → Stands execution s (now (state .entry)) w → Does (push v (s .cpu)) 2 s (now (image .entry)) (now (list .entry)) 3 (now (state .exit)) (now (image .exit)) (now (list .exit))) ⌝ }
-{
-    let s = state[state::S];
-    bus::push(w, image, list, 2, s, v);
-    state::set_s(state, bytes::down(1, s));
-}
-
-// PHP pushes "bits 4, 5 set".
-fn php(state: &mut [u8], w: Wiring, image: &mut [u8], list: &mut [u8])
-    requires { ⌜ Ready w (length (now state)) (length (now image)) (length (now list)) ⌝ }
-    ensures { λ r. ⌜ ((s : State) → Stands execution s (now (state .entry)) w → Does (perform Php (s .cpu)) 2 s (now (image .entry)) (now (list .entry)) 3 (now (state .exit)) (now (image .exit)) (now (list .exit))) ⌝ }
-{
-    let p = flags::with_bit_4(state::flags_of(state));
-    push(p, state, w, image, list)
-}
-
-fn pha(state: &mut [u8], w: Wiring, image: &mut [u8], list: &mut [u8])
-    requires { ⌜ Ready w (length (now state)) (length (now image)) (length (now list)) ⌝ }
-    ensures { λ r. ⌜ ((s : State) → Stands execution s (now (state .entry)) w → Does (perform Pha (s .cpu)) 2 s (now (image .entry)) (now (list .entry)) 3 (now (state .exit)) (now (image .exit)) (now (list .exit))) ⌝ }
-{
-    let a = register_of(Storing::Sta, state);
-    push(a, state, w, image, list)
-}
-
-// S after k pulls.
-fn up(k: u8, s: u8) -> u8
-    ensures { λ r. ⌜ r ≡ sum8 s k ⌝ }
-{
-    std::num::wrapping_add_u8(s, k)
-}
-
-// "read at S, read at S+1"
-fn pulled(state: &[u8], w: Wiring, image: &[u8], list: &mut [u8], s: u8) -> u8
-    requires { ⌜ Ready w (length (now state)) (length (now image)) (length (now list)) ⌝ }
-    ensures { λ r. ⌜ ((t : State) → Stands execution t (now (state .entry)) w → Goes (pulledAt s) 2 (t .bus) (now (image .entry)) (now (list .entry)) r 4 (t .bus) (now (image .entry)) (now (list .exit))) ⌝ }
-{
-    let above = bytes::stack(up(1, s));
-    bus::read(state, w, image, list, 2, bytes::stack(s));
-    bus::read(state, w, image, list, 3, above)
-}
-
-// "PLP, RTI keep 5 set, 4 clear"
-fn plp(state: &mut [u8], w: Wiring, image: &[u8], list: &mut [u8])
-    requires { ⌜ Ready w (length (now state)) (length (now image)) (length (now list)) ⌝ }
-    ensures { λ r. ⌜ ((s : State) → Stands execution s (now (state .entry)) w → Does (perform Plp (s .cpu)) 2 s (now (image .entry)) (now (list .entry)) 4 (now (state .exit)) (now (image .entry)) (now (list .exit))) ⌝ }
-{
-    let s = state[state::S];
-    let p = pulled(state, w, image, list, s);
-    state::set_s(state, up(1, s));
-    state::set_flags(state, flags::flags_of(p));
-}
-
-fn pla(state: &mut [u8], w: Wiring, image: &[u8], list: &mut [u8])
-    requires { ⌜ Ready w (length (now state)) (length (now image)) (length (now list)) ⌝ }
-    ensures { λ r. ⌜ ((s : State) → Stands execution s (now (state .entry)) w → Does (perform Pla (s .cpu)) 2 s (now (image .entry)) (now (list .entry)) 4 (now (state .exit)) (now (image .entry)) (now (list .exit))) ⌝ }
-{
-    let s = state[state::S];
-    let v = pulled(state, w, image, list, s);
-    state::set_s(state, up(1, s));
-    state::to(state, state::A, v);
-}
-
-// S and PC together.
-fn set_s_pc(state: &mut [u8], s: u8, pc: u16)
-    requires { ⌜ length (now state) ≡ 16 ⌝ }
-    ensures { λ r. ⌜ Makes (λ c. withPc pc (withS s c)) (now (state .entry)) (now (state .exit)) ⌝ }
-{
-    state::set_s(state, s);
-    state::set_pc(state, pc);
-}
-
 // "JSR: low, read at S, push PC+2 high, low, then high operand." PC stands at PC+2.
 fn jsr(low: u8, state: &mut [u8], w: Wiring, image: &mut [u8], list: &mut [u8])
     requires { ⌜ Ready w (length (now state)) (length (now image)) (length (now list)) ⌝ }
@@ -260,43 +183,8 @@ fn jsr(low: u8, state: &mut [u8], w: Wiring, image: &mut [u8], list: &mut [u8])
     bus::read(state, w, image, list, 2, bytes::stack(s));
     stack::push_pc(w, image, list, 3, pc, s);
     let high = bus::read(state, w, image, list, 5, pc);
-    set_s_pc(state, bytes::down(2, s), bytes::join(low, high));
-}
-
-// Two bytes from S + 1 and S + 2, as an address.
-fn word_above(state: &[u8], w: Wiring, image: &[u8], list: &mut [u8], k: usize, s: u8) -> u16
-    requires { ⌜ (k < 6) × Ready w (length (now state)) (length (now image)) (length (now list)) ⌝ }
-    ensures { λ r. ⌜ ((t : State) → Stands execution t (now (state .entry)) w → Goes (wordAt (stack (sum8 s 1)) (stack (sum8 s 2))) k (t .bus) (now (image .entry)) (now (list .entry)) r (k + 2) (t .bus) (now (image .entry)) (now (list .exit))) ⌝ }
-{
-    let one = bytes::stack(up(1, s));
-    let two = bytes::stack(up(2, s));
-    stack::word_at(state, w, image, list, k, one, two)
-}
-
-// "RTS: PC+1, read at S, pull low, high, read there; PC is one more."
-fn rts(state: &mut [u8], w: Wiring, image: &[u8], list: &mut [u8])
-    requires { ⌜ Ready w (length (now state)) (length (now image)) (length (now list)) ⌝ }
-    ensures { λ r. ⌜ ((s : State) → Stands execution s (now (state .entry)) w → Does (rts (s .cpu)) 2 s (now (image .entry)) (now (list .entry)) 6 (now (state .exit)) (now (image .entry)) (now (list .exit))) ⌝ }
-{
-    let s = state[state::S];
-    bus::read(state, w, image, list, 2, bytes::stack(s));
-    let a = word_above(state, w, image, list, 3, s);
-    bus::read(state, w, image, list, 5, a);
-    set_s_pc(state, up(2, s), std::num::wrapping_add_u16(a, 1));
-}
-
-// "RTI: PC+1, read at S, pull P, low, high."
-fn rti(state: &mut [u8], w: Wiring, image: &[u8], list: &mut [u8])
-    requires { ⌜ Ready w (length (now state)) (length (now image)) (length (now list)) ⌝ }
-    ensures { λ r. ⌜ ((s : State) → Stands execution s (now (state .entry)) w → Does (rti (s .cpu)) 2 s (now (image .entry)) (now (list .entry)) 6 (now (state .exit)) (now (image .entry)) (now (list .exit))) ⌝ }
-{
-    let s = state[state::S];
-    let two = bytes::stack(up(2, s));
-    let three = bytes::stack(up(3, s));
-    let p = pulled(state, w, image, list, s);
-    let to = stack::word_at(state, w, image, list, 4, two, three);
-    state::set_flags(state, flags::flags_of(p));
-    set_s_pc(state, up(3, s), to);
+    state::set_s(state, bytes::down(2, s));
+    state::set_pc(state, bytes::join(low, high));
 }
 
 // "JMP (a): two operands, pointer, and the next location"
@@ -352,6 +240,7 @@ fn perform(i: Instruction, state: &mut [u8], w: Wiring, image: &mut [u8], list: 
             internal::inside(o, state);
             2
         }
+        Instruction::AtStack(o) => stacking::at_stack(o, state, w, image, list),
         Instruction::Branch(t, o) => branch(t, o, state, w, image, list),
         Instruction::Jump(a) => {
             state::set_pc(state, a);
@@ -365,33 +254,9 @@ fn perform(i: Instruction, state: &mut [u8], w: Wiring, image: &mut [u8], list: 
             jsr(low, state, w, image, list);
             6
         }
-        Instruction::Rts => {
-            rts(state, w, image, list);
-            6
-        }
-        Instruction::Rti => {
-            rti(state, w, image, list);
-            6
-        }
         Instruction::Brk => {
             interrupts::brk(state, w, image, list);
             7
-        }
-        Instruction::Php => {
-            php(state, w, image, list);
-            3
-        }
-        Instruction::Plp => {
-            plp(state, w, image, list);
-            4
-        }
-        Instruction::Pha => {
-            pha(state, w, image, list);
-            3
-        }
-        Instruction::Pla => {
-            pla(state, w, image, list);
-            4
         }
         Instruction::Txs => {
             txs(state);

@@ -11,8 +11,9 @@ use Rattle.rules.specs.declared.Changing.{Changing}
 use Rattle.rules.specs.declared.Changing.the-variants.{Asl, Rol, Lsr, Ror, Dec, Inc}
 use Rattle.rules.specs.declared.Condition.the-variants.{Bpl, Bmi, Bvc, Bvs, Bcc, Bcs, Bne, Beq}
 use Rattle.rules.specs.declared.Internal.the-variants.{Clc, Sec, Sei, Clv, Cld, Sed, Tax, Txa, Tay, Tya, Tsx, Inx, Iny, Dex, Dey, Nop}
+use Rattle.rules.specs.declared.Stacking.the-variants.{Php, Plp, Pha, Pla, Rts, Rti}
 use Rattle.rules.specs.declared.Instruction.{Instruction}
-use Rattle.rules.specs.declared.Instruction.the-variants.{Read, Store, Change, Accumulator, Implied, Branch, Jump, JumpIndirect, Jsr, Rts, Rti, Brk, Php, Plp, Pha, Pla, Txs, Cli}
+use Rattle.rules.specs.declared.Instruction.the-variants.{Read, Store, Change, Accumulator, Implied, AtStack, Branch, Jump, JumpIndirect, Jsr, Brk, Txs, Cli}
 use Rattle.rules.specs.Basics.{if_then_else_, address}
 
 -- What an opcode stands for: nothing, or an instruction that is made of no operand, of a byte, of an address (low byte first), or, late, of
@@ -127,10 +128,10 @@ others =
     0x10 is byte (Branch Bpl) ∷ 0x30 is byte (Branch Bmi) ∷ 0x50 is byte (Branch Bvc) ∷ 0x70 is byte (Branch Bvs) ∷
     0x90 is byte (Branch Bcc) ∷ 0xB0 is byte (Branch Bcs) ∷ 0xD0 is byte (Branch Bne) ∷ 0xF0 is byte (Branch Beq) ∷
     -- JMP a, JMP (a), JSR, RTS, RTI, BRK, NOP
-    0x4C is word Jump ∷ 0x6C is word JumpIndirect ∷ 0x20 is late Jsr ∷ 0x60 is alone Rts ∷ 0x40 is alone Rti ∷ 0x00 is alone Brk ∷
+    0x4C is word Jump ∷ 0x6C is word JumpIndirect ∷ 0x20 is late Jsr ∷ 0x60 is alone (AtStack Rts) ∷ 0x40 is alone (AtStack Rti) ∷ 0x00 is alone Brk ∷
     0xEA is alone (Implied Nop) ∷
     -- PHP PLP PHA PLA
-    0x08 is alone Php ∷ 0x28 is alone Plp ∷ 0x48 is alone Pha ∷ 0x68 is alone Pla ∷
+    0x08 is alone (AtStack Php) ∷ 0x28 is alone (AtStack Plp) ∷ 0x48 is alone (AtStack Pha) ∷ 0x68 is alone (AtStack Pla) ∷
     -- CLC SEC CLI SEI CLV CLD SED
     0x18 is alone (Implied Clc) ∷ 0x38 is alone (Implied Sec) ∷ 0x58 is alone Cli ∷ 0x78 is alone (Implied Sei) ∷
     0xB8 is alone (Implied Clv) ∷ 0xD8 is alone (Implied Cld) ∷ 0xF8 is alone (Implied Sed) ∷

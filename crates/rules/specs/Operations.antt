@@ -14,8 +14,10 @@ use Rattle.rules.specs.declared.Condition.{Condition}
 use Rattle.rules.specs.declared.Condition.the-variants.{Bpl, Bmi, Bvc, Bvs, Bcc, Bcs, Bne, Beq}
 use Rattle.rules.specs.declared.Internal.{Internal}
 use Rattle.rules.specs.declared.Internal.the-variants.{Clc, Sec, Sei, Clv, Cld, Sed, Tax, Txa, Tay, Tya, Tsx, Inx, Iny, Dex, Dey, Nop}
+use Rattle.rules.specs.declared.Stacking.{Stacking}
+use Rattle.rules.specs.declared.Stacking.the-variants.{Php, Plp, Pha, Pla, Rts, Rti}
 use Rattle.rules.specs.declared.Instruction.{Instruction}
-use Rattle.rules.specs.declared.Instruction.the-variants.{Read, Store, Change, Accumulator, Implied, Branch, Jump, JumpIndirect, Jsr, Rts, Rti, Brk, Php, Plp, Pha, Pla, Txs, Cli}
+use Rattle.rules.specs.declared.Instruction.the-variants.{Read, Store, Change, Accumulator, Implied, AtStack, Branch, Jump, JumpIndirect, Jsr, Brk, Txs, Cli}
 use Rattle.rules.specs.Basics.{if_then_else_, address, sum8, sum16}
 use Rattle.rules.specs.Cycles.{Cycles, done, write, _>>=_, _>>_}
 use Rattle.rules.specs.Flags.{byteOf4, flagsOf, nz, withV, withD, withI, withC}
@@ -161,6 +163,15 @@ rti c = do
   high ← get (stack (sum8 (c .s) 3))
   done (withPc (address low high) (withP (flagsOf p) (withS (sum8 (c .s) 3) c)))
 
+-- what is done at the stack
+abbrev pub atStack : Stacking → Cpu → Cycles Cpu
+atStack Php c = push (byteOf4 (c .p)) c
+atStack Plp c = pull (λ v. withP (flagsOf v)) c
+atStack Pha c = push (c .a) c
+atStack Pla c = pull toA c
+atStack Rts c = rts c
+atStack Rti c = rti c
+
 -- "BRK: PC+1, push PC+2 high, low, P with bit 4 set, FFFE, FFFF; I set." PC now stands at PC+1.
 unfoldable pub brk : Cpu → Cycles Cpu
 brk c = do
@@ -187,17 +198,12 @@ perform (Change o m) c = do
   done (withP (changed o v (c .p) .flags) c)
 perform (Accumulator o) c = done (withResult (changed o (c .a) (c .p)) c)
 perform (Implied o) c = done (inside o c)
+perform (AtStack o) c = atStack o c
 perform (Branch t o) c = if taken t (c .p) then branchTo (target (c .pc) o) c else done c
 perform (Jump a) c = done (withPc a c)
 perform (JumpIndirect a) c = jumpIndirect a c
 perform (Jsr low) c = jsr low c
-perform Rts c = rts c
-perform Rti c = rti c
 perform Brk c = brk c
-perform Php c = push (byteOf4 (c .p)) c
-perform Plp c = pull (λ v. withP (flagsOf v)) c
-perform Pha c = push (c .a) c
-perform Pla c = pull toA c
 perform Txs c = done (withS (c .x) c)
 perform Cli c = done (withP (withI false (c .p)) c)
 

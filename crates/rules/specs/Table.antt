@@ -6,7 +6,8 @@ use Rattle.rules.specs.declared.Storing.the-variants.{Sta, Stx, Sty}
 use Rattle.rules.specs.declared.Changing.the-variants.{Asl, Rol, Lsr, Ror, Dec, Inc}
 use Rattle.rules.specs.declared.Condition.the-variants.{Bpl, Bmi, Bvc, Bvs, Bcc, Bcs, Bne, Beq}
 use Rattle.rules.specs.declared.Internal.the-variants.{Clc, Sec, Sei, Clv, Cld, Sed, Tax, Txa, Tay, Tya, Tsx, Inx, Iny, Dex, Dey, Nop}
-use Rattle.rules.specs.declared.Instruction.the-variants.{Read, Store, Change, Accumulator, Implied, Branch, Jump, JumpIndirect, Jsr, Rts, Rti, Brk, Php, Plp, Pha, Pla, Txs, Cli}
+use Rattle.rules.specs.declared.Stacking.the-variants.{Php, Plp, Pha, Pla, Rts, Rti}
+use Rattle.rules.specs.declared.Instruction.the-variants.{Read, Store, Change, Accumulator, Implied, AtStack, Branch, Jump, JumpIndirect, Jsr, Brk, Txs, Cli}
 use Rattle.rules.specs.Opcodes.{Entry, undefined, alone, byte, word, late, _·_, #, z, zX, zY, a, aX, aY, ⟨zX⟩, ⟨z⟩Y, ⟨z⟩Yᵢ}
 
 abbrev ∅ : Entry
@@ -16,25 +17,25 @@ unfoldable pub table : List Entry
 table =
     -- 00
     alone Brk ∷ Read Ora · ⟨zX⟩ ∷ ∅ ∷ ∅ ∷ ∅ ∷ Read Ora · z ∷ Change Asl · z ∷ ∅ ∷
-    alone Php ∷ Read Ora · # ∷ alone (Accumulator Asl) ∷ ∅ ∷ ∅ ∷ Read Ora · a ∷ Change Asl · a ∷ ∅ ∷
+    alone (AtStack Php) ∷ Read Ora · # ∷ alone (Accumulator Asl) ∷ ∅ ∷ ∅ ∷ Read Ora · a ∷ Change Asl · a ∷ ∅ ∷
     -- 10
     byte (Branch Bpl) ∷ Read Ora · ⟨z⟩Y ∷ ∅ ∷ ∅ ∷ ∅ ∷ Read Ora · zX ∷ Change Asl · zX ∷ ∅ ∷
     alone (Implied Clc) ∷ Read Ora · aY ∷ ∅ ∷ ∅ ∷ ∅ ∷ Read Ora · aX ∷ Change Asl · aX ∷ ∅ ∷
     -- 20
     late Jsr ∷ Read And · ⟨zX⟩ ∷ ∅ ∷ ∅ ∷ Read Bit · z ∷ Read And · z ∷ Change Rol · z ∷ ∅ ∷
-    alone Plp ∷ Read And · # ∷ alone (Accumulator Rol) ∷ ∅ ∷ Read Bit · a ∷ Read And · a ∷ Change Rol · a ∷ ∅ ∷
+    alone (AtStack Plp) ∷ Read And · # ∷ alone (Accumulator Rol) ∷ ∅ ∷ Read Bit · a ∷ Read And · a ∷ Change Rol · a ∷ ∅ ∷
     -- 30
     byte (Branch Bmi) ∷ Read And · ⟨z⟩Y ∷ ∅ ∷ ∅ ∷ ∅ ∷ Read And · zX ∷ Change Rol · zX ∷ ∅ ∷
     alone (Implied Sec) ∷ Read And · aY ∷ ∅ ∷ ∅ ∷ ∅ ∷ Read And · aX ∷ Change Rol · aX ∷ ∅ ∷
     -- 40
-    alone Rti ∷ Read Eor · ⟨zX⟩ ∷ ∅ ∷ ∅ ∷ ∅ ∷ Read Eor · z ∷ Change Lsr · z ∷ ∅ ∷
-    alone Pha ∷ Read Eor · # ∷ alone (Accumulator Lsr) ∷ ∅ ∷ word Jump ∷ Read Eor · a ∷ Change Lsr · a ∷ ∅ ∷
+    alone (AtStack Rti) ∷ Read Eor · ⟨zX⟩ ∷ ∅ ∷ ∅ ∷ ∅ ∷ Read Eor · z ∷ Change Lsr · z ∷ ∅ ∷
+    alone (AtStack Pha) ∷ Read Eor · # ∷ alone (Accumulator Lsr) ∷ ∅ ∷ word Jump ∷ Read Eor · a ∷ Change Lsr · a ∷ ∅ ∷
     -- 50
     byte (Branch Bvc) ∷ Read Eor · ⟨z⟩Y ∷ ∅ ∷ ∅ ∷ ∅ ∷ Read Eor · zX ∷ Change Lsr · zX ∷ ∅ ∷
     alone Cli ∷ Read Eor · aY ∷ ∅ ∷ ∅ ∷ ∅ ∷ Read Eor · aX ∷ Change Lsr · aX ∷ ∅ ∷
     -- 60
-    alone Rts ∷ Read Adc · ⟨zX⟩ ∷ ∅ ∷ ∅ ∷ ∅ ∷ Read Adc · z ∷ Change Ror · z ∷ ∅ ∷
-    alone Pla ∷ Read Adc · # ∷ alone (Accumulator Ror) ∷ ∅ ∷ word JumpIndirect ∷ Read Adc · a ∷ Change Ror · a ∷ ∅ ∷
+    alone (AtStack Rts) ∷ Read Adc · ⟨zX⟩ ∷ ∅ ∷ ∅ ∷ ∅ ∷ Read Adc · z ∷ Change Ror · z ∷ ∅ ∷
+    alone (AtStack Pla) ∷ Read Adc · # ∷ alone (Accumulator Ror) ∷ ∅ ∷ word JumpIndirect ∷ Read Adc · a ∷ Change Ror · a ∷ ∅ ∷
     -- 70
     byte (Branch Bvs) ∷ Read Adc · ⟨z⟩Y ∷ ∅ ∷ ∅ ∷ ∅ ∷ Read Adc · zX ∷ Change Ror · zX ∷ ∅ ∷
     alone (Implied Sei) ∷ Read Adc · aY ∷ ∅ ∷ ∅ ∷ ∅ ∷ Read Adc · aX ∷ Change Ror · aX ∷ ∅ ∷

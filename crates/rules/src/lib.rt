@@ -124,6 +124,16 @@ pub enum Internal {
     Nop,
 }
 
+// What is done at the stack, by an instruction that is its opcode alone.
+pub enum Stacking {
+    Php,
+    Plp,
+    Pha,
+    Pla,
+    Rts,
+    Rti,
+}
+
 // An instruction, grouped by its shape on the bus: "an operation with its addressing mode, and the mode with its operand". Where an
 // operation has one mode only, its case carries the operand itself. Of a JSR that is the low byte: the high one is read after the pushes.
 pub enum Instruction {
@@ -132,17 +142,12 @@ pub enum Instruction {
     Change(Changing, Mode),
     Accumulator(Changing),
     Implied(Internal),
+    AtStack(Stacking),
     Branch(Condition, u8),
     Jump(u16),
     JumpIndirect(u16),
     Jsr(u8),
-    Rts,
-    Rti,
     Brk,
-    Php,
-    Plp,
-    Pha,
-    Pla,
     Txs,
     Cli,
 }

@@ -46,7 +46,7 @@ fetches = refl
 
 -- JSR's high operand is no byte that is fetched first, but one of the instruction's
 abbrev sizedBy : Entry → ℕ
-sizedBy e = if eqb (numberOf e) 240 then 3 else fetched (numberOf e)
+sizedBy e = if eqb (numberOf e) 246 then 3 else fetched (numberOf e)
 
 sizes : map sizedBy table ≡ map sizeOf table
 unfolding table number numberOf fetched
@@ -62,7 +62,7 @@ made-is n low high h = everywhere (byNumber low high) (byEntry low high) (makes 
 pub fetched-is : (n : ℕ) → n < 256 → fetched (numberOf (decode n)) ≡ fetchedBy (decode n)
 fetched-is n h = everywhere (λ (e : Entry). fetched (numberOf e)) fetchedBy fetches n h
 
-pub sized-is : (n : ℕ) → n < 256 → (if eqb (numberOf (decode n)) 240 then 3 else fetched (numberOf (decode n))) ≡ sizeOf (decode n)
+pub sized-is : (n : ℕ) → n < 256 → (if eqb (numberOf (decode n)) 246 then 3 else fetched (numberOf (decode n))) ≡ sizeOf (decode n)
 sized-is n h = everywhere sizedBy sizeOf sizes n h
 
 pub defined-is : (n : ℕ) → n < 256 → eqb (numberOf (decode n)) 255 ≡ not (isDefined (decode n))

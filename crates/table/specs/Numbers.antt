@@ -16,8 +16,10 @@ use Rattle.rules.specs.declared.Condition.{Condition}
 use Rattle.rules.specs.declared.Condition.the-variants.{Bpl, Bmi, Bvc, Bvs, Bcc, Bcs, Bne, Beq}
 use Rattle.rules.specs.declared.Internal.{Internal}
 use Rattle.rules.specs.declared.Internal.the-variants.{Clc, Sec, Sei, Clv, Cld, Sed, Tax, Txa, Tay, Tya, Tsx, Inx, Iny, Dex, Dey, Nop}
+use Rattle.rules.specs.declared.Stacking.{Stacking}
+use Rattle.rules.specs.declared.Stacking.the-variants.{Php, Plp, Pha, Pla, Rts, Rti}
 use Rattle.rules.specs.declared.Instruction.{Instruction}
-use Rattle.rules.specs.declared.Instruction.the-variants.{Read, Store, Change, Accumulator, Implied, Branch, Jump, JumpIndirect, Jsr, Rts, Rti, Brk, Php, Plp, Pha, Pla, Txs, Cli}
+use Rattle.rules.specs.declared.Instruction.the-variants.{Read, Store, Change, Accumulator, Implied, AtStack, Branch, Jump, JumpIndirect, Jsr, Brk, Txs, Cli}
 use Rattle.rules.specs.Basics.{if_then_else_, address}
 use Rattle.rules.specs.Opcodes.{Entry, undefined, alone, byte, word, late}
 use Rattle.rules.specs.Table.{table}
@@ -79,6 +81,14 @@ internalNumber Dex = 13
 internalNumber Dey = 14
 internalNumber Nop = 15
 
+abbrev pub stackingNumber : Stacking → ℕ
+stackingNumber Php = 0
+stackingNumber Plp = 1
+stackingNumber Pha = 2
+stackingNumber Pla = 3
+stackingNumber Rts = 4
+stackingNumber Rti = 5
+
 abbrev pub conditionNumber : Condition → ℕ
 conditionNumber Bpl = 0
 conditionNumber Bmi = 1
@@ -95,17 +105,12 @@ number (Store o m) = 21 * modeNumber m + 12 + storingNumber o
 number (Change o m) = 21 * modeNumber m + 15 + changingNumber o
 number (Accumulator o) = 210 + changingNumber o
 number (Implied o) = 214 + internalNumber o
-number (Branch t v) = 230 + conditionNumber t
-number (Jump a) = 238
-number (JumpIndirect a) = 239
-number (Jsr low) = 240
-number Rts = 241
-number Rti = 242
-number Brk = 243
-number Php = 244
-number Plp = 245
-number Pha = 246
-number Pla = 247
+number (AtStack o) = 230 + stackingNumber o
+number (Branch t v) = 236 + conditionNumber t
+number (Jump a) = 244
+number (JumpIndirect a) = 245
+number (Jsr low) = 246
+number Brk = 247
 number Txs = 248
 number Cli = 249
 
@@ -155,6 +160,12 @@ internals = Clc ∷ Sec ∷ Sei ∷ Clv ∷ Cld ∷ Sed ∷ Tax ∷ Txa ∷ Tay 
 abbrev pub internalOf : ℕ → Internal
 internalOf n = getD internals n Nop
 
+abbrev pub stackings : List Stacking
+stackings = Php ∷ Plp ∷ Pha ∷ Pla ∷ Rts ∷ []
+
+abbrev pub stackingOf : ℕ → Stacking
+stackingOf n = getD stackings n Rti
+
 abbrev pub conditions : List Condition
 conditions = Bpl ∷ Bmi ∷ Bvc ∷ Bvs ∷ Bcc ∷ Bcs ∷ Bne ∷ []
 
@@ -163,7 +174,7 @@ conditionOf n = getD conditions n Beq
 
 abbrev pub singles : ℕ → ℕ → List Instruction
 singles low high =
-    Jump (address low high) ∷ JumpIndirect (address low high) ∷ Jsr low ∷ Rts ∷ Rti ∷ Brk ∷ Php ∷ Plp ∷ Pha ∷ Pla ∷ Txs ∷ []
+    Jump (address low high) ∷ JumpIndirect (address low high) ∷ Jsr low ∷ Brk ∷ Txs ∷ []
 
 abbrev pub singleOf : ℕ → ℕ → ℕ → Instruction
 singleOf n low high = getD (singles low high) n Cli
@@ -180,13 +191,14 @@ made n low high =
     if ltb n 210 then withMode (n % 21) (modeOf (n / 21) low high)
     else if ltb n 214 then Accumulator (changingOf (n - 210))
     else if ltb n 230 then Implied (internalOf (n - 214))
-    else if ltb n 238 then Branch (conditionOf (n - 230)) low
-    else singleOf (n - 238) low high
+    else if ltb n 236 then AtStack (stackingOf (n - 230))
+    else if ltb n 244 then Branch (conditionOf (n - 236)) low
+    else singleOf (n - 244) low high
 
 -- how many bytes are fetched before the instruction's own accesses: 3 of a, a,X, a,Y and both JMP, whose operand is an address
 unfoldable pub fetched : ℕ → ℕ
 fetched n =
     if ltb n 84 then 2 else if ltb n 147 then 3 else if ltb n 210 then 2
-    else if ltb n 230 then 1
-    else if ltb n 238 then 2
-    else if ltb n 240 then 3 else if eqb n 240 then 2 else 1
+    else if ltb n 236 then 1
+    else if ltb n 244 then 2
+    else if ltb n 246 then 3 else if eqb n 246 then 2 else 1

@@ -119,43 +119,44 @@ const DEY: u8 = 228;
 
 const NOP: u8 = 229;
 
+// What is done at the stack.
+pub const PHP: u8 = 230;
+
+const PLP: u8 = 231;
+
+const PHA: u8 = 232;
+
+const PLA: u8 = 233;
+
+const RTS: u8 = 234;
+
+const RTI: u8 = 235;
+
 // The branches.
-pub const BPL: u8 = 230;
+pub const BPL: u8 = 236;
 
-const BMI: u8 = 231;
+const BMI: u8 = 237;
 
-const BVC: u8 = 232;
+const BVC: u8 = 238;
 
-const BVS: u8 = 233;
+const BVS: u8 = 239;
 
-const BCC: u8 = 234;
+const BCC: u8 = 240;
 
-const BCS: u8 = 235;
+const BCS: u8 = 241;
 
-const BNE: u8 = 236;
+const BNE: u8 = 242;
 
-const BEQ: u8 = 237;
+const BEQ: u8 = 243;
 
 // The others, each a case of its own in Instruction.
-pub const JMP: u8 = 238;
+pub const JMP: u8 = 244;
 
-const JMP_INDIRECT: u8 = 239;
+const JMP_INDIRECT: u8 = 245;
 
-pub const JSR: u8 = 240;
+pub const JSR: u8 = 246;
 
-const RTS: u8 = 241;
-
-const RTI: u8 = 242;
-
-const BRK: u8 = 243;
-
-const PHP: u8 = 244;
-
-const PLP: u8 = 245;
-
-const PHA: u8 = 246;
-
-const PLA: u8 = 247;
+const BRK: u8 = 247;
 
 const TXS: u8 = 248;
 

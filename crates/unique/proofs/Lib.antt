@@ -22,6 +22,7 @@ pub mod Restart
 pub mod Run
 pub mod Sequence
 pub mod Stack
+pub mod Stacking
 pub mod State
 pub mod Step
 pub mod Sums

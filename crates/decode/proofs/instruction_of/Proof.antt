@@ -18,11 +18,15 @@ returns-3 c = search (lt-ltb, le-ltb, c .internal .ensures)
 
 returns-4 : tie.Need-returns-4
 unfolding made
-returns-4 c = search (lt-ltb, le-ltb, c .condition .ensures)
+returns-4 c = search (lt-ltb, le-ltb, c .stacking .ensures)
 
 returns-5 : tie.Need-returns-5
 unfolding made
-returns-5 c = search (le-ltb, c .single .ensures)
+returns-5 c = search (lt-ltb, le-ltb, c .condition .ensures)
+
+returns-6 : tie.Need-returns-6
+unfolding made
+returns-6 c = search (le-ltb, c .single .ensures)
 
 pub instruction-of-spec : {M : Type 1} → statement M
 instruction-of-spec =
@@ -38,4 +42,6 @@ instruction-of-spec =
     (λ c κs. search needs)
     returns-4
     (λ c κs. search needs)
-    returns-5)
+    returns-5
+    (λ c κs. search needs)
+    returns-6)

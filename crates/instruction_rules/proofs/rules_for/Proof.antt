@@ -32,14 +32,20 @@ returns-3 c =
 returns-4 : tie.Need-returns-4
 unfolding made
 returns-4 c =
-    let a = c .before .before .before .before .before .before .args in
-    rw (le-ltb _ _ (c .before .before .before .before .if1 .left), le-ltb (a .entry) 214 (omega (arith, c .before .before .before .if3 .left)), le-ltb _ _ (c .before .before .before .if3 .left), lt-ltb _ _ (c .before .before .if4 .taken), c .before .before .before .before .before .goes-on .ensures, c .goes-on2 .ensures, c .before .target .ensures)
+    let a = c .before .before .before .before .before .args in
+    rw (le-ltb _ _ (c .before .before .before .if1 .left), le-ltb (a .entry) 214 (omega (arith, c .before .before .if3 .left)), le-ltb _ _ (c .before .before .if3 .left), lt-ltb _ _ (c .before .if4 .taken)) (c .rules-for-stacking .ensures (address (a .low) (a .high)))
 
 returns-5 : tie.Need-returns-5
 unfolding made
 returns-5 c =
-    let a = c .before .before .before .before .before .args in
-    rw (le-ltb _ _ (c .before .before .before .if1 .left), le-ltb (a .entry) 214 (omega (arith, c .before .before .if3 .left)), le-ltb _ _ (c .before .before .if3 .left), le-ltb _ _ (c .before .if4 .left)) (c .rules-for-single .ensures)
+    let a = c .before .before .before .before .before .before .before .args in
+    rw (le-ltb _ _ (c .before .before .before .before .before .if1 .left), le-ltb (a .entry) 214 (omega (arith, c .before .before .before .before .if3 .left)), le-ltb _ _ (c .before .before .before .before .if3 .left), le-ltb _ _ (c .before .before .before .if4 .left), lt-ltb _ _ (c .before .before .if5 .taken), c .before .before .before .before .before .before .goes-on .ensures, c .goes-on2 .ensures, c .before .target .ensures)
+
+returns-6 : tie.Need-returns-6
+unfolding made
+returns-6 c =
+    let a = c .before .before .before .before .before .before .args in
+    rw (le-ltb _ _ (c .before .before .before .before .if1 .left), le-ltb (a .entry) 214 (omega (arith, c .before .before .before .if3 .left)), le-ltb _ _ (c .before .before .before .if3 .left), le-ltb _ _ (c .before .before .if4 .left), le-ltb _ _ (c .before .if5 .left)) (c .rules-for-single .ensures)
 
 pub rules-for-spec : {M : Type 1} → statement M
 rules-for-spec =
@@ -54,7 +60,9 @@ rules-for-spec =
     (λ c κs. search needs)
     returns-3
     (λ c κs. search needs)
-    (λ c κs. search needs)
     returns-4
     (λ c κs. search needs)
-    returns-5)
+    (λ c κs. search needs)
+    returns-5
+    (λ c κs. search needs)
+    returns-6)

@@ -31,55 +31,35 @@ returns-5 c = (omega arith, λ s h. rw (c .before .before .before .before .befor
 
 returns-6 : tie.Need-returns-6
 unfolding perform
-returns-6 c = (c .before .before .before .before .branch .ensures .0, λ s h. rw (c .before .before .before .before .before .before .before .before .before .i6 .given .1) (c .before .before .before .before .branch .ensures .1 s h))
+returns-6 c = (c .before .before .before .before .before .before .at-stack .ensures .0, λ s h. rw (c .before .before .before .before .before .before .before .before .before .before .before .i6 .given .1) (c .before .before .before .before .before .before .at-stack .ensures .1 s h))
 
 returns-7 : tie.Need-returns-7
 unfolding perform
-returns-7 c = (omega arith, λ s h. rw (c .before .before .before .before .before .i7 .given .1) (does s (c .before .before .set-pc .ensures s (h .bytes)) ended))
+returns-7 c = (c .before .before .before .before .branch .ensures .0, λ s h. rw (c .before .before .before .before .before .before .before .before .before .i7 .given .1) (c .before .before .before .before .branch .ensures .1 s h))
 
 returns-8 : tie.Need-returns-8
 unfolding perform
-returns-8 c = (omega arith, λ s h. rw (c .before .before .before .before .before .before .before .before .before .i8 .given .1) (c .before .before .before .before .jump-indirect .ensures s h))
+returns-8 c = (omega arith, λ s h. rw (c .before .before .before .before .before .i8 .given .1) (does s (c .before .before .set-pc .ensures s (h .bytes)) ended))
 
 returns-9 : tie.Need-returns-9
 unfolding perform
-returns-9 c = (omega arith, λ s h. rw (c .before .before .before .before .before .before .before .before .before .before .before .i9 .given .1) (c .before .before .before .before .before .before .jsr .ensures s h))
+returns-9 c = (omega arith, λ s h. rw (c .before .before .before .before .before .before .before .before .before .i9 .given .1) (c .before .before .before .before .jump-indirect .ensures s h))
 
 returns-10 : tie.Need-returns-10
 unfolding perform
-returns-10 c = (omega arith, λ s h. rw (c .before .before .before .before .before .before .before .before .enum-told .given .1) (c .before .before .before .before .rts .ensures s h))
+returns-10 c = (omega arith, λ s h. rw (c .before .before .before .before .before .before .before .before .before .before .before .i10 .given .1) (c .before .before .before .before .before .before .jsr .ensures s h))
 
 returns-11 : tie.Need-returns-11
 unfolding perform
-returns-11 c = (omega arith, λ s h. rw (c .before .before .before .before .before .before .before .before .enum-told2 .given .1) (c .before .before .before .before .rti .ensures s h))
+returns-11 c = (omega arith, λ s h. rw (c .before .before .before .before .before .before .before .before .before .before .enum-told .given .1) (c .before .before .before .before .before .before .brk .ensures s h))
 
 returns-12 : tie.Need-returns-12
 unfolding perform
-returns-12 c = (omega arith, λ s h. rw (c .before .before .before .before .before .before .before .before .before .before .enum-told3 .given .1) (c .before .before .before .before .before .before .brk .ensures s h))
+returns-12 c = (omega arith, λ s h. rw (c .before .before .before .before .enum-told2 .given .1) (does s (c .before .before .txs .ensures s (h .bytes)) ended))
 
 returns-13 : tie.Need-returns-13
 unfolding perform
-returns-13 c = (omega arith, λ s h. rw (c .before .before .before .before .before .before .before .before .before .before .enum-told4 .given .1) (c .before .before .before .before .before .before .php .ensures s h))
-
-returns-14 : tie.Need-returns-14
-unfolding perform
-returns-14 c = (omega arith, λ s h. rw (c .before .before .before .before .before .before .before .before .enum-told5 .given .1) (c .before .before .before .before .plp .ensures s h))
-
-returns-15 : tie.Need-returns-15
-unfolding perform
-returns-15 c = (omega arith, λ s h. rw (c .before .before .before .before .before .before .before .before .before .before .enum-told6 .given .1) (c .before .before .before .before .before .before .pha .ensures s h))
-
-returns-16 : tie.Need-returns-16
-unfolding perform
-returns-16 c = (omega arith, λ s h. rw (c .before .before .before .before .before .before .before .before .enum-told7 .given .1) (c .before .before .before .before .pla .ensures s h))
-
-returns-17 : tie.Need-returns-17
-unfolding perform
-returns-17 c = (omega arith, λ s h. rw (c .before .before .before .before .enum-told8 .given .1) (does s (c .before .before .txs .ensures s (h .bytes)) ended))
-
-returns-18 : tie.Need-returns-18
-unfolding perform
-returns-18 c = (omega arith, λ s h. rw (c .before .before .before .before .enum-told9 .given .1) (does s (c .before .before .cli .ensures s (h .bytes)) ended))
+returns-13 c = (omega arith, λ s h. rw (c .before .before .before .before .enum-told3 .given .1) (does s (c .before .before .cli .ensures s (h .bytes)) ended))
 
 pub perform-spec : {M : Type 1} → statement M
 perform-spec =
@@ -91,16 +71,6 @@ perform-spec =
     (λ c κs. search needs)
     (λ c. search needs)
     change-requires
-    (λ c. search needs)
-    (λ c κs. search needs)
-    (λ c. search needs)
-    (λ c κs. search needs)
-    (λ c. search needs)
-    (λ c κs. search needs)
-    (λ c. search needs)
-    (λ c κs. search needs)
-    (λ c. search needs)
-    (λ c κs. search needs)
     (λ c. search needs)
     (λ c κs. search needs)
     (λ c. search needs)
@@ -142,9 +112,9 @@ perform-spec =
     (λ c. search needs)
     returns-6
     (λ c. search needs)
+    (λ c. search needs)
+    (λ c. search needs)
     returns-7
-    (λ c. search needs)
-    (λ c. search needs)
     (λ c. search needs)
     returns-8
     (λ c. search needs)
@@ -160,26 +130,6 @@ perform-spec =
     (λ c. search needs)
     returns-11
     (λ c. search needs)
-    (λ c. search needs)
-    (λ c. search needs)
     returns-12
     (λ c. search needs)
-    (λ c. search needs)
-    (λ c. search needs)
-    returns-13
-    (λ c. search needs)
-    (λ c. search needs)
-    (λ c. search needs)
-    returns-14
-    (λ c. search needs)
-    (λ c. search needs)
-    (λ c. search needs)
-    returns-15
-    (λ c. search needs)
-    (λ c. search needs)
-    (λ c. search needs)
-    returns-16
-    (λ c. search needs)
-    returns-17
-    (λ c. search needs)
-    returns-18)
+    returns-13)

@@ -1,6 +1,6 @@
 use borrow.Author.Needs.{needs}
-use Rattle.processor.proofs.word_above.Statement.{statement}
-use Rattle.processor.proofs.word_above.Tie as tie
+use Rattle.stacking.proofs.word_above.Statement.{statement}
+use Rattle.stacking.proofs.word_above.Tie as tie
 
 returns : tie.Need-returns
 returns c = λ t h. rw (c .before .before .before .before .stack2 .ensures, c .before .before .before .before .before .up2 .ensures, c .before .before .before .before .before .before .stack .ensures, c .before .before .before .before .before .before .before .up .ensures) at (c .before .before .word-at .ensures t h)

@@ -8,8 +8,8 @@ use Rattle.rules.specs.Flags.{flagsOf}
 use Rattle.rules.specs.Operations.{rti, withPc, withP, withS}
 use borrow.Author.Needs.{needs}
 use Rattle.state.proofs.Registers.{s-of}
-use Rattle.processor.proofs.rti.Statement.{statement}
-use Rattle.processor.proofs.rti.Tie as tie
+use Rattle.stacking.proofs.rti.Statement.{statement}
+use Rattle.stacking.proofs.rti.Tie as tie
 
 set-s-pc-requires : tie.Need-set-s-pc-requires
 set-s-pc-requires c κs = c .before .before .before .before .set-flags .kept .0 ∙ c .before .before .before .before .before .before .before .before .before .before .before .before .before .before .before .before .before .before .before .before .before .before .before .before .before .pre .whole

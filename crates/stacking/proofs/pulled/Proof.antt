@@ -1,8 +1,8 @@
 use Rattle.bus.proofs.Laws.{then-read}
 use Rattle.rules.specs.Cycles.{execution, _>>=_}
 use borrow.Author.Needs.{needs}
-use Rattle.processor.proofs.pulled.Statement.{statement}
-use Rattle.processor.proofs.pulled.Tie as tie
+use Rattle.stacking.proofs.pulled.Statement.{statement}
+use Rattle.stacking.proofs.pulled.Tie as tie
 
 returns : tie.Need-returns
 unfolding _>>=_

@@ -6,8 +6,8 @@ use Rattle.rules.specs.Cycles.{execution, _>>=_}
 use Rattle.rules.specs.Operations.{rts}
 use borrow.Author.Needs.{needs}
 use Rattle.state.proofs.Registers.{s-of}
-use Rattle.processor.proofs.rts.Statement.{statement}
-use Rattle.processor.proofs.rts.Tie as tie
+use Rattle.stacking.proofs.rts.Statement.{statement}
+use Rattle.stacking.proofs.rts.Tie as tie
 
 returns : tie.Need-returns
 unfolding rts _>>=_

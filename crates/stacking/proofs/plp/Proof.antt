@@ -2,15 +2,15 @@ use Rattle.bus.proofs.Laws.{does, ended, then-call}
 use Rattle.rules.specs.Cycles.{done, _>>=_}
 use Rattle.rules.specs.Basics.{sum8}
 use Rattle.rules.specs.Flags.{flagsOf}
-use Rattle.rules.specs.Operations.{perform, pull, withP, withS}
+use Rattle.rules.specs.Operations.{pull, withP, withS}
 use Rattle.laws.specs.States.{moved}
 use borrow.Author.Needs.{needs}
 use Rattle.state.proofs.Registers.{s-of}
-use Rattle.processor.proofs.plp.Statement.{statement}
-use Rattle.processor.proofs.plp.Tie as tie
+use Rattle.stacking.proofs.plp.Statement.{statement}
+use Rattle.stacking.proofs.plp.Tie as tie
 
 returns : tie.Need-returns
-unfolding perform pull _>>=_
+unfolding pull _>>=_
 returns c = λ s h.
     let sp = s-of s (h .bytes) in
     does s (rw (c .before .before .before .flags-of .ensures, c .before .before .before .before .before .before .before .before .up .ensures, sp) at (c .before .before .set-flags .ensures (moved (withS _ (s .cpu)) (s .bus) s) (c .before .before .before .before .before .before .before .set-s .ensures s (h .bytes))))

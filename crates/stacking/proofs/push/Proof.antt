@@ -3,8 +3,8 @@ use Rattle.rules.specs.Cycles.{execution, _>>=_}
 use Rattle.rules.specs.Operations.{push}
 use borrow.Author.Needs.{needs}
 use Rattle.state.proofs.Registers.{s-of}
-use Rattle.processor.proofs.push.Statement.{statement}
-use Rattle.processor.proofs.push.Tie as tie
+use Rattle.stacking.proofs.push.Statement.{statement}
+use Rattle.stacking.proofs.push.Tie as tie
 
 returns : tie.Need-returns
 unfolding push _>>=_

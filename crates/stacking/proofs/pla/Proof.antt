@@ -1,16 +1,16 @@
 use Rattle.bus.proofs.Laws.{does, ended, then-call}
 use Rattle.rules.specs.Cycles.{done, _>>=_}
 use Rattle.rules.specs.Basics.{sum8}
-use Rattle.rules.specs.Operations.{perform, pull, toA, withS}
+use Rattle.rules.specs.Operations.{pull, toA, withS}
 use Rattle.laws.specs.States.{moved}
 use Rattle.rules.specs.Record.{recordOf}
 use borrow.Author.Needs.{needs}
 use Rattle.state.proofs.Registers.{s-of}
-use Rattle.processor.proofs.pla.Statement.{statement}
-use Rattle.processor.proofs.pla.Tie as tie
+use Rattle.stacking.proofs.pla.Statement.{statement}
+use Rattle.stacking.proofs.pla.Tie as tie
 
 returns : tie.Need-returns
-unfolding perform pull _>>=_ recordOf
+unfolding pull _>>=_ recordOf
 returns c = λ s h.
     let sp = s-of s (h .bytes) in
     does s {c = toA (c .before .before .before .before .before .before .before .before .before .before .before .pulled .result) (withS (sum8 (s .cpu .s) 1) (s .cpu))}

@@ -1,8 +1,8 @@
 use Rattle.rules.specs.Operations.{withS}
 use Rattle.laws.specs.States.{moved}
 use borrow.Author.Needs.{needs}
-use Rattle.processor.proofs.set_s_pc.Statement.{statement}
-use Rattle.processor.proofs.set_s_pc.Tie as tie
+use Rattle.stacking.proofs.set_s_pc.Statement.{statement}
+use Rattle.stacking.proofs.set_s_pc.Tie as tie
 
 returns : tie.Need-returns
 returns c = λ s e. c .before .before .set-pc .ensures (moved (withS _ (s .cpu)) (s .bus) s) (c .before .before .before .before .before .before .set-s .ensures s e)
