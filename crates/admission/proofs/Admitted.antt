@@ -12,7 +12,7 @@ use Rattle.rules.specs.Bus.{images}
 use Rattle.laws.proofs.Tests.{tested-append}
 use Rattle.admission_rules.specs.Admission.{marksIn, ofRecords, formTests, inputFits, vectorsHold, ruleTests, admit}
 use Rattle.admission_rules.proofs.Admissions.{fits}
-use Rattle.marks.specs.Maps.{Formed}
+use Rattle.admission.specs.Maps.{Formed}
 use Rattle.admission.proofs.Forms.{malformed, all-formed}
 
 module _ (m : List ℕ) (c : ℕ) (map : List ℕ) where

@@ -15,7 +15,7 @@ use Rattle.rules.specs.Basics.{if_then_else_, at}
 use Rattle.rules.specs.Answers.{tested}
 use Rattle.admission_rules.specs.Admission.{main, handler, markAt, marksIn, ascends, ofRecords, formTests}
 use Rattle.laws.proofs.Tests.{and-right}
-use Rattle.marks.specs.Maps.{shaped, formed, Formed, Ascending}
+use Rattle.admission.specs.Maps.{shaped, formed, Formed, Ascending}
 use Rattle.admission.proofs.Judged.{from, no-record, record-first}
 
 joined : {A : Type 0} (a b c d e f : Bool) (x y : A) →

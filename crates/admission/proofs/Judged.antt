@@ -10,8 +10,8 @@ use Rattle.rules.specs.declared.Verdict.the-variants.{Accepted, Barred}
 use Rattle.rules.specs.Answers.{Test, tested}
 use Rattle.laws.proofs.Tests.{tested-append}
 use Rattle.admission_rules.specs.Admission.{ofRecords}
-use Rattle.instruction_rules.specs.declared.Rules.{Rules}
-use Rattle.instruction_rules.specs.declared.Successor as code
+use Rattle.admission.specs.declared.instruction_rules.Rules.{Rules}
+use Rattle.admission.specs.declared.instruction_rules.Successor as code
 use Rattle.admission.specs.Settled.{reached, leads, settled}
 
 -- the tests of the records from i on, of n, where v is what follows them

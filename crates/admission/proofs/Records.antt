@@ -16,10 +16,10 @@ use Rattle.rules.specs.Bus.{images}
 use Rattle.admission_rules.specs.Admission.{markAt, rulesOf, ruleTests}
 use Rattle.table.specs.Numbers.{numberOf, made, fetched}
 use Rattle.table.proofs.Decodes.{made-of, sized-is, defined-is}
-use Rattle.marks.specs.declared.Mark.{Mark}
-use Rattle.instruction_rules.specs.declared.Rules.{Rules}
-use Rattle.marks.specs.Maps.{markOf}
-use Rattle.instruction_rules.specs.Rules.{rulesFor}
+use Rattle.admission.specs.declared.marks.Mark.{Mark}
+use Rattle.admission.specs.declared.instruction_rules.Rules.{Rules}
+use Rattle.admission.specs.Maps.{markOf}
+use Rattle.admission.specs.Rules.{rulesFor}
 use Rattle.admission.specs.Settled.{settled}
 use Rattle.admission.proofs.Settled.{rules-are}
 

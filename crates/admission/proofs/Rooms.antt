@@ -7,7 +7,7 @@ use mathlib.Core.List.{List}
 use borrow.Author.Tests.{lt-leb}
 use lib.Dec.{leb}
 use Rattle.admission_rules.specs.Admission.{main, handler, marked, isMark}
-use Rattle.marks.specs.Maps.{NeedAt}
+use Rattle.admission.specs.Maps.{NeedAt}
 
 -- "FFFC points to main, FFFE to handler, both height 0; their needs + 3 make at most 256"
 pub rooms : (map : List ℕ) (p q m h : ℕ) → NeedAt map p main 0 m → NeedAt map q handler 0 h →

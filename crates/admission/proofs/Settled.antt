@@ -18,11 +18,11 @@ use Rattle.rules.specs.Answers.{Test, tested}
 use Rattle.rules.specs.Bus.{images}
 use Rattle.laws.proofs.Tests.{tested-append}
 use Rattle.admission_rules.specs.Admission.{main, routine, handler, next, wordAt, storeTests, rulesOf}
-use Rattle.marks.specs.declared.Mark.{Mark}
-use Rattle.instruction_rules.specs.declared.Rules.{Rules}
-use Rattle.instruction_rules.specs.declared.Rules.the-variants.{Leads}
-use Rattle.marks.specs.Maps.{markOf}
-use Rattle.instruction_rules.specs.Rules.{rulesUnless, outside, stored, goesTo, goesOn, one, isAtZero, rulesFor}
+use Rattle.admission.specs.declared.marks.Mark.{Mark}
+use Rattle.admission.specs.declared.instruction_rules.Rules.{Rules}
+use Rattle.admission.specs.declared.instruction_rules.Rules.the-variants.{Leads}
+use Rattle.admission.specs.Maps.{markOf}
+use Rattle.admission.specs.Rules.{rulesUnless, outside, stored, goesTo, goesOn, one, isAtZero, rulesFor}
 use Rattle.admission.specs.Settled.{settled}
 
 module _ (map : List ℕ) (i : ℕ) where

@@ -8,9 +8,9 @@ use Rattle.rules.specs.declared.Verdict.{Verdict}
 use Rattle.rules.specs.declared.Verdict.the-variants.{Barred}
 use Rattle.rules.specs.Answers.{Test, _unless_, tested}
 use Rattle.admission_rules.specs.Admission.{marked, isMark}
-use Rattle.instruction_rules.specs.declared.Successor.{Successor}
-use Rattle.instruction_rules.specs.declared.Rules.{Rules}
-use Rattle.instruction_rules.specs.declared.Rules.the-variants.{Broken, Leads}
+use Rattle.admission.specs.declared.instruction_rules.Successor.{Successor}
+use Rattle.admission.specs.declared.instruction_rules.Rules.{Rules}
+use Rattle.admission.specs.declared.instruction_rules.Rules.the-variants.{Broken, Leads}
 
 -- a successor is marked as is asked
 abbrev pub reached : List ℕ → Successor → Bool

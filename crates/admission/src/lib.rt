@@ -1,5 +1,8 @@
 // The judgement of an image with its map: "it accepts exactly when all the rules above hold".
 
+mod instruction_rules;
+mod marks;
+
 use instruction_rules::Rules;
 use instruction_rules::Successor;
 use rules::Refusal;
@@ -17,7 +20,7 @@ ghost use Rattle.rules.specs.Bus.{images};
 ghost use Rattle.admission_rules.specs.Admission.{marksIn, inputFits, vectorsHold, ofRecords, ruleTests, admit};
 ghost use Rattle.admission_rules.specs.Safety.{Safe, PlaysOut};
 ghost use Rattle.table.specs.Numbers.{numberOf, entries, fetched};
-ghost use Rattle.marks.specs.Maps.{Ascending};
+ghost use Rattle.admission.specs.Maps.{Ascending};
 ghost use Rattle.admission.specs.Settled.{reached, settled};
 
 // Whether a successor is marked as is asked.

@@ -9,11 +9,9 @@ pub mod Decode
 pub mod Flags
 pub mod Formed
 pub mod General
-pub mod InstructionRules
 pub mod Internal
 pub mod Interrupts
 pub mod Listing
-pub mod Marks
 pub mod Operations
 pub mod Processor
 pub mod Relations
