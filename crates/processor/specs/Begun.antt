@@ -4,7 +4,7 @@ use mathlib.Core.Bool.{Bool, true}
 use lib.Dec.{leb}
 use Rattle.rules.specs.declared.Instruction.{Instruction}
 use Rattle.rules.specs.declared.Instruction.the-variants.{Read, Store, Change, Accumulator, Implied, AtStack, Branch, Jump, JumpIndirect, Jsr, Brk, Txs, Cli}
-use Rattle.addressing.specs.Start.{fetchedOf}
+use Rattle.processor.specs.Start.{fetchedOf}
 use Rattle.laws.proofs.Lengths.{placeMost}
 
 -- the opcode's, and the operand's or the one at PC+1

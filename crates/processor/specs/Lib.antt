@@ -1,2 +1,3 @@
 pub mod Begun
 pub mod Rewritten
+pub mod Start

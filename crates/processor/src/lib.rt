@@ -1,5 +1,7 @@
 // One instruction, one line a bus cycle, in the order of time.
 
+mod addressing;
+
 use rules::Changing;
 use rules::Condition;
 use rules::Flags;
@@ -25,10 +27,10 @@ ghost use Rattle.rules.specs.Flags.{withI};
 ghost use Rattle.state.specs.Makes.{Makes};
 ghost use Rattle.wiring.specs.Wiring.{Stands, Ready};
 ghost use Rattle.bus.specs.Goes.{Goes, Does};
-ghost use Rattle.addressing.specs.Start.{fetchedOf};
 ghost use Rattle.laws.proofs.Lengths.{placeMost};
 ghost use Rattle.processor.specs.Rewritten.{rewritten};
 ghost use Rattle.processor.specs.Begun.{begun, short};
+ghost use Rattle.processor.specs.Start.{fetchedOf};
 ghost use mathlib.Core.Bool.{true, false};
 
 fn register_of(o: Storing, state: &[u8]) -> u8

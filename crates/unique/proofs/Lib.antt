@@ -1,4 +1,3 @@
-pub mod Addressing
 pub mod Admission
 pub mod Arithmetic
 pub mod Board

@@ -1,8 +1,8 @@
 use Rattle.bus.proofs.Laws.{then-read, ended}
 use Rattle.rules.specs.Addressing.{indexed}
 use borrow.Author.Needs.{needs}
-use Rattle.addressing.proofs.indexed.Statement.{statement}
-use Rattle.addressing.proofs.indexed.Tie as tie
+use Rattle.processor.proofs.addressing.indexed.Statement.{statement}
+use Rattle.processor.proofs.addressing.indexed.Tie as tie
 
 returns : tie.Need-returns
 unfolding indexed

@@ -2,8 +2,8 @@ use Rattle.bus.proofs.Laws.{ended, then-read}
 use Rattle.rules.specs.Cycles.{execution, _>>=_}
 use Rattle.rules.specs.Addressing.{zeroIndexed}
 use borrow.Author.Needs.{needs}
-use Rattle.addressing.proofs.zero_indexed.Statement.{statement}
-use Rattle.addressing.proofs.zero_indexed.Tie as tie
+use Rattle.processor.proofs.addressing.zero_indexed.Statement.{statement}
+use Rattle.processor.proofs.addressing.zero_indexed.Tie as tie
 
 returns : tie.Need-returns
 unfolding zeroIndexed _>>=_

@@ -3,8 +3,8 @@ use native.Mathlib.Omega.{arith}
 use borrow.Author.Tests.{eq-eqb, ne-eqb}
 use Rattle.rules.specs.Addressing.{loadIndexed}
 use borrow.Author.Needs.{needs}
-use Rattle.addressing.proofs.load_indexed.Statement.{statement}
-use Rattle.addressing.proofs.load_indexed.Tie as tie
+use Rattle.processor.proofs.addressing.load_indexed.Statement.{statement}
+use Rattle.processor.proofs.addressing.load_indexed.Tie as tie
 
 returns : tie.Need-returns
 unfolding loadIndexed

@@ -4,8 +4,8 @@ use Rattle.rules.specs.Record.{recordOf}
 use Rattle.rules.specs.Addressing.{place}
 use native.Mathlib.Omega.{arith}
 use borrow.Author.Needs.{needs}
-use Rattle.addressing.proofs.place.Statement.{statement}
-use Rattle.addressing.proofs.place.Tie as tie
+use Rattle.processor.proofs.addressing.place.Statement.{statement}
+use Rattle.processor.proofs.addressing.place.Tie as tie
 
 returns : tie.Need-returns
 unfolding place recordOf

@@ -3,8 +3,8 @@ use Rattle.rules.specs.Cycles.{execution, _>>=_}
 use native.Mathlib.Omega.{arith}
 use Rattle.rules.specs.Addressing.{pointer}
 use borrow.Author.Needs.{needs}
-use Rattle.addressing.proofs.pointer.Statement.{statement}
-use Rattle.addressing.proofs.pointer.Tie as tie
+use Rattle.processor.proofs.addressing.pointer.Statement.{statement}
+use Rattle.processor.proofs.addressing.pointer.Tie as tie
 
 returns : tie.Need-returns
 unfolding pointer _>>=_

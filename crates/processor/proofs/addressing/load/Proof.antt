@@ -4,8 +4,8 @@ use Rattle.rules.specs.Cycles.{execution, indirect}
 use Rattle.rules.specs.Record.{recordOf}
 use Rattle.rules.specs.Addressing.{load}
 use borrow.Author.Needs.{needs}
-use Rattle.addressing.proofs.load.Statement.{statement}
-use Rattle.addressing.proofs.load.Tie as tie
+use Rattle.processor.proofs.addressing.load.Statement.{statement}
+use Rattle.processor.proofs.addressing.load.Tie as tie
 
 returns : tie.Need-returns
 unfolding load recordOf

@@ -10,17 +10,17 @@ ghost use Rattle.rules.specs.Cycles.{Bank, execution};
 ghost use Rattle.rules.specs.Addressing.{oldPage, pointer, zeroIndexed, loadIndexed, indexed, load, place};
 ghost use Rattle.wiring.specs.Wiring.{Stands, Ready};
 ghost use Rattle.bus.specs.Goes.{Goes};
-ghost use Rattle.addressing.specs.Start.{fetchedOf};
+ghost use Rattle.processor.specs.Start.{fetchedOf};
 ghost use Rattle.laws.proofs.Lengths.{placeMost};
 
 // A byte that was found, and the accesses made so far.
-pub struct Loaded {
+pub(crate) struct Loaded {
     pub value: u8,
     pub count: usize,
 }
 
 // An address that was found, and the accesses made so far.
-pub struct Spot {
+pub(crate) struct Spot {
     pub address: u16,
     pub count: usize,
 }
@@ -94,7 +94,7 @@ fn load_indexed(
 }
 
 // The byte that a load finds.
-pub fn load(m: Mode, state: &[u8], w: Wiring, image: &[u8], list: &mut [u8]) -> Loaded
+pub(crate) fn load(m: Mode, state: &[u8], w: Wiring, image: &[u8], list: &mut [u8]) -> Loaded
     requires { ⌜ Ready w (length (now state)) (length (now image)) (length (now list)) ⌝ }
     ensures { λ r. ⌜ (r .count ≤ 7) × ((s : State) → Stands execution s (now (state .entry)) w → Goes (load (s .cpu) m) (fetchedOf m) (s .bus) (now (image .entry)) (now (list .entry)) (r .value) (r .count) (s .bus) (now (image .entry)) (now (list .exit))) ⌝ }
 {
@@ -145,7 +145,7 @@ pub fn load(m: Mode, state: &[u8], w: Wiring, image: &[u8], list: &mut [u8]) -> 
 }
 
 // The address where a store or a shift/INC/DEC finds its data.
-pub fn place(m: Mode, state: &[u8], w: Wiring, image: &[u8], list: &mut [u8]) -> Spot
+pub(crate) fn place(m: Mode, state: &[u8], w: Wiring, image: &[u8], list: &mut [u8]) -> Spot
     requires { ⌜ Ready w (length (now state)) (length (now image)) (length (now list)) ⌝ }
     ensures { λ r. ⌜ ((r .count ≤ 5) × (r .count ≤ fetchedOf m + placeMost m)) × ((s : State) → Stands execution s (now (state .entry)) w → Goes (place (s .cpu) m) (fetchedOf m) (s .bus) (now (image .entry)) (now (list .entry)) (r .address) (r .count) (s .bus) (now (image .entry)) (now (list .exit))) ⌝ }
 {
