@@ -20,7 +20,7 @@ ghost use Rattle.rules.specs.Bus.{world, images, look};
 ghost use Rattle.rules.specs.Record.{recordOf};
 ghost use Rattle.rules.specs.Addressing.{bankOf};
 ghost use Rattle.rules.specs.Arithmetic.{changed};
-ghost use Rattle.rules.specs.Operations.{withP, withS, withResult, registerOf, taken, jsr, jumpIndirect, perform, next, operate};
+ghost use Rattle.rules.specs.Operations.{withP, withS, withResult, registerOf, taken, jsr, brk, jumpIndirect, perform, next, operate};
 ghost use Rattle.rules.specs.Opcodes.{decode, isDefined};
 ghost use Rattle.table.specs.Numbers.{numberOf};
 ghost use Rattle.rules.specs.Flags.{withI};
@@ -189,6 +189,18 @@ fn jsr(low: u8, state: &mut [u8], w: Wiring, image: &mut [u8], list: &mut [u8])
     state::set_pc(state, bytes::join(low, high));
 }
 
+// "BRK: PC+1, push PC+2 high, low, P with bit 4 set, FFFE, FFFF; I set." PC stands at PC+1.
+fn brk(state: &mut [u8], w: Wiring, image: &mut [u8], list: &mut [u8])
+    requires { ⌜ Ready w (length (now state)) (length (now image)) (length (now list)) ⌝ }
+    ensures { λ r. ⌜ ((s : State) → Stands execution s (now (state .entry)) w → Does (brk (s .cpu)) 2 s (now (image .entry)) (now (list .entry)) 7 (now (state .exit)) (now (image .exit)) (now (list .exit))) ⌝ }
+{
+    let back = std::num::wrapping_add_u16(state::pc_of(state), 1);
+    let s = state[state::S];
+    let p = flags::with_bit_4(state::flags_of(state));
+    sequence::push_three(w, image, list, back, s, p);
+    sequence::enter(65534, state, w, image, list);
+}
+
 // "JMP (a): two operands, pointer, and the next location"
 fn jump_indirect(a: u16, state: &mut [u8], w: Wiring, image: &[u8], list: &mut [u8])
     requires { ⌜ Ready w (length (now state)) (length (now image)) (length (now list)) ⌝ }
@@ -257,7 +269,7 @@ fn perform(i: Instruction, state: &mut [u8], w: Wiring, image: &mut [u8], list: 
             6
         }
         Instruction::Brk => {
-            interrupts::brk(state, w, image, list);
+            brk(state, w, image, list);
             7
         }
         Instruction::Txs => {

@@ -1,22 +1,23 @@
-// What BRK, the interrupts and RES have in common. Each access has its number in the step.
+// What BRK and the interrupts have in common; RES ends as they do. Each access has its number in the step.
 
 use wiring::Wiring;
 ghost use Prim.Native.Nat.{_<_};
 ghost use lib.ListN.{length};
+ghost use Rattle.rules.specs.declared.Bus.{Bus};
 ghost use Rattle.rules.specs.declared.State.{State};
 ghost use Rattle.rules.specs.Cycles.{execution};
 ghost use Rattle.rules.specs.Operations.{enter};
-ghost use Rattle.wiring.specs.Wiring.{Stands, Ready};
+ghost use Rattle.wiring.specs.Wiring.{Wired, Stands, Ready};
 ghost use Rattle.bus.specs.Goes.{Goes, Does};
-ghost use Rattle.sequence.specs.Reads.{twoReads};
+ghost use Rattle.sequence.specs.Pushes.{pushThree};
 
-// "read PC twice"
-pub fn two_reads(state: &[u8], w: Wiring, image: &[u8], list: &mut [u8], pc: u16)
-    requires { ⌜ Ready w (length (now state)) (length (now image)) (length (now list)) ⌝ }
-    ensures { λ r. ⌜ ((t : State) → Stands execution t (now (state .entry)) w → Goes (twoReads pc) 0 (t .bus) (now (image .entry)) (now (list .entry)) tt 2 (t .bus) (now (image .entry)) (now (list .exit))) ⌝ }
+// "push PC high, low, P"
+pub fn push_three(w: Wiring, image: &mut [u8], list: &mut [u8], pc: u16, s: u8, p: u8)
+    requires { ⌜ Ready w 16 (length (now image)) (length (now list)) ⌝ }
+    ensures { λ r. ⌜ ((u : Bus) → Wired execution w u → Goes (pushThree pc s p) 2 u (now (image .entry)) (now (list .entry)) tt 5 u (now (image .exit)) (now (list .exit))) ⌝ }
 {
-    bus::read(state, w, image, list, 0, pc);
-    bus::read(state, w, image, list, 1, pc);
+    stack::push_pc(w, image, list, 2, pc, s);
+    bus::push(w, image, list, 4, bytes::down(2, s), p);
 }
 
 // How BRK, an interrupt and a reset end: S is lower by 3, "read the vector", "set I".

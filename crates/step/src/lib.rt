@@ -113,7 +113,7 @@ fn reset(state: &mut [u8], image: &[u8], list: &mut [u8], pins: u8, banks: u8)
 {
     reset_registers(state);
     let w = wiring::wire(state, pins, banks);
-    reset::reset(state, w, image, list);
+    interrupts::reset(state, w, image, list);
 }
 
 // The instruction at PC, whose opcode was looked at.

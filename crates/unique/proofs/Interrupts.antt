@@ -1,4 +1,4 @@
--- The same of BRK and the interrupts.
+-- The same of the interrupts and RES.
 use mathlib.Core.Path.{ap}
 use denote.Ref.{now}
 use Rattle.rules.specs.declared.State.{State}
@@ -6,11 +6,11 @@ use Rattle.rules.specs.Cycles.{execution}
 use Rattle.wiring.specs.Wiring.{Stands}
 use Rattle.interrupts.proofs as its
 use Rattle.unique.proofs.General.{UniqueWhere}
-use Rattle.unique.proofs.Relations.{does, pushed}
-
-pub brk : (s : State) → UniqueWhere its.brk.Kinds.ps its.brk.Kinds.r (λ κs a. Stands execution s (now (a .0)) (a .1 .0)) its.brk.Reads.Post
-brk s κs a h x y p q j = let e = does (p s h) (q s h) j in (tt, (e .state, (tt, (e .image, (e .accesses, tt)))))
+use Rattle.unique.proofs.Relations.{does, pushed, pulled}
 
 pub interrupt : (s : State) →
     UniqueWhere its.interrupt.Kinds.ps its.interrupt.Kinds.r (λ κs a. Stands execution s (now (a .1 .0)) (a .1 .1 .0)) its.interrupt.Reads.Post
 interrupt s κs a h x y p q = ap pushed (does (p s h) (q s h))
+
+pub reset : (s : State) → UniqueWhere its.reset.Kinds.ps its.reset.Kinds.r (λ κs a. Stands execution s (now (a .0)) (a .1 .0)) its.reset.Reads.Post
+reset s κs a h x y p q = ap pulled (does (p s h) (q s h))

@@ -14,7 +14,6 @@ pub mod Listing
 pub mod Operations
 pub mod Processor
 pub mod Relations
-pub mod Reset
 pub mod Restart
 pub mod Run
 pub mod Sequence

@@ -1,8 +1,8 @@
 use Rattle.bus.proofs.Laws.{then-do}
 use Rattle.rules.specs.Cycles.{execution, _>>=_}
 use borrow.Author.Needs.{needs}
-use Rattle.interrupts.proofs.push_three.Statement.{statement}
-use Rattle.interrupts.proofs.push_three.Tie as tie
+use Rattle.sequence.proofs.push_three.Statement.{statement}
+use Rattle.sequence.proofs.push_three.Tie as tie
 
 returns : tie.Need-returns
 unfolding _>>=_

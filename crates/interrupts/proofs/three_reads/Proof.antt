@@ -1,8 +1,8 @@
 use Rattle.bus.proofs.Laws.{ended, then-read}
 use Rattle.rules.specs.Cycles.{execution, _>>=_}
 use borrow.Author.Needs.{needs}
-use Rattle.reset.proofs.three_reads.Statement.{statement}
-use Rattle.reset.proofs.three_reads.Tie as tie
+use Rattle.interrupts.proofs.three_reads.Statement.{statement}
+use Rattle.interrupts.proofs.three_reads.Tie as tie
 
 returns : tie.Need-returns
 unfolding _>>=_

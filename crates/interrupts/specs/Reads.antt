@@ -1,8 +1,15 @@
--- What a reset reads where an interrupt pushes.
+-- How an interrupt and a reset begin, and what a reset reads where an interrupt pushes.
 use Prim.Native.Nat.{ℕ}
 use Rattle.rules.specs.Operations.{stack, down}
 use Rattle.rules.specs.Cycles.{Cycles, done, _>>=_, _>>_}
 use Rattle.rules.specs.Addressing.{get}
+
+-- "read PC twice"
+abbrev pub twoReads : ℕ → Cycles (Unit {0})
+twoReads p = do
+  get p
+  get p
+  done tt
 
 -- "three stack reads in place of pushes"
 abbrev pub threeReads : ℕ → Cycles (Unit {0})

@@ -3,8 +3,8 @@ use Rattle.rules.specs.Cycles.{_>>=_}
 use Rattle.rules.specs.Operations.{brk}
 use borrow.Author.Needs.{needs}
 use Rattle.state.proofs.Registers.{s-of}
-use Rattle.interrupts.proofs.brk.Statement.{statement}
-use Rattle.interrupts.proofs.brk.Tie as tie
+use Rattle.processor.proofs.brk.Statement.{statement}
+use Rattle.processor.proofs.brk.Tie as tie
 
 returns : tie.Need-returns
 unfolding brk _>>=_

@@ -3,8 +3,8 @@ use Rattle.rules.specs.Cycles.{_>>=_}
 use Rattle.rules.specs.Interrupts.{reset}
 use borrow.Author.Needs.{needs}
 use Rattle.state.proofs.Registers.{s-of}
-use Rattle.reset.proofs.reset.Statement.{statement}
-use Rattle.reset.proofs.reset.Tie as tie
+use Rattle.interrupts.proofs.reset.Statement.{statement}
+use Rattle.interrupts.proofs.reset.Tie as tie
 
 returns : tie.Need-returns
 unfolding reset _>>=_
