@@ -1,5 +1,7 @@
 // What is done with a byte that was read.
 
+mod sums;
+
 use rules::Flags;
 use rules::Reading;
 ghost use mathlib.Core.Path.{_≡_};

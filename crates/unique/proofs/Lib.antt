@@ -21,7 +21,6 @@ pub mod Stack
 pub mod Stacking
 pub mod State
 pub mod Step
-pub mod Sums
 pub mod Table
 pub mod Text
 pub mod Wiring

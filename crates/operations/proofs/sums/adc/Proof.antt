@@ -1,6 +1,6 @@
 use borrow.Author.Needs.{needs}
-use Rattle.sums.proofs.adc.Statement.{statement}
-use Rattle.sums.proofs.adc.Tie as tie
+use Rattle.operations.proofs.sums.adc.Statement.{statement}
+use Rattle.operations.proofs.sums.adc.Tie as tie
 
 returns : tie.Need-returns
 returns c = rw (c .decimal .ensures, c .before .if1 .taken)

@@ -1,6 +1,6 @@
 use borrow.Author.Needs.{needs}
-use Rattle.sums.proofs.binary.Statement.{statement}
-use Rattle.sums.proofs.binary.Tie as tie
+use Rattle.operations.proofs.sums.binary.Statement.{statement}
+use Rattle.operations.proofs.sums.binary.Tie as tie
 
 returns : tie.Need-returns
 returns c = rw (c .overflows .ensures, c .before .bit .ensures .0)

@@ -1,8 +1,8 @@
 use borrow.Author.Tests.{le-leb, lt-leb}
 use Rattle.rules.specs.Arithmetic.{lowSum}
 use borrow.Author.Needs.{needs}
-use Rattle.sums.proofs.low_sum.Statement.{statement}
-use Rattle.sums.proofs.low_sum.Tie as tie
+use Rattle.operations.proofs.sums.low_sum.Statement.{statement}
+use Rattle.operations.proofs.sums.low_sum.Tie as tie
 
 returns : tie.Need-returns
 unfolding lowSum

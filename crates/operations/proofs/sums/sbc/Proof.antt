@@ -1,6 +1,6 @@
 use borrow.Author.Needs.{needs}
-use Rattle.sums.proofs.sbc.Statement.{statement}
-use Rattle.sums.proofs.sbc.Tie as tie
+use Rattle.operations.proofs.sums.sbc.Statement.{statement}
+use Rattle.operations.proofs.sums.sbc.Tie as tie
 
 returns : tie.Need-returns
 returns c = rw (c .difference .ensures, c .before .bit .ensures .0, c .before .before .flags .given, c .before .before .before .before .binary .ensures, c .before .before .before .if1 .taken)

@@ -1,6 +1,6 @@
 use borrow.Author.Needs.{needs}
-use Rattle.sums.proofs.difference.Statement.{statement}
-use Rattle.sums.proofs.difference.Tie as tie
+use Rattle.operations.proofs.sums.difference.Statement.{statement}
+use Rattle.operations.proofs.sums.difference.Tie as tie
 
 returns : tie.Need-returns
 returns c = rw (c .high-difference .ensures, c .before .high2 .ensures, c .before .before .low-difference .ensures .0, c .before .before .before .high .ensures)

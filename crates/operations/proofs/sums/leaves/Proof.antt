@@ -1,7 +1,7 @@
-use Rattle.sums.proofs.Laws.{not-below}
+use Rattle.operations.proofs.sums.Laws.{not-below}
 use borrow.Author.Tests.{lt-ltb, lt-leb, le-leb}
-use Rattle.sums.proofs.leaves.Statement.{statement}
-use Rattle.sums.proofs.leaves.Tie as tie
+use Rattle.operations.proofs.sums.leaves.Statement.{statement}
+use Rattle.operations.proofs.sums.leaves.Tie as tie
 
 returns : tie.Need-returns
 returns c = rw (lt-ltb _ _ (c .if1 .taken), lt-leb _ _ (c .if1 .taken))

@@ -1,8 +1,8 @@
 use borrow.Author.Tests.{lt-ltb, le-ltb}
 use Rattle.rules.specs.Arithmetic.{lowDifference}
 use borrow.Author.Needs.{needs}
-use Rattle.sums.proofs.low_difference.Statement.{statement}
-use Rattle.sums.proofs.low_difference.Tie as tie
+use Rattle.operations.proofs.sums.low_difference.Statement.{statement}
+use Rattle.operations.proofs.sums.low_difference.Tie as tie
 
 returns : tie.Need-returns
 unfolding lowDifference

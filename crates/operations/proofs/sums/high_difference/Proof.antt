@@ -1,8 +1,8 @@
 use borrow.Author.Tests.{lt-ltb, le-ltb}
 use Rattle.rules.specs.Arithmetic.{highDifference}
 use borrow.Author.Needs.{needs}
-use Rattle.sums.proofs.high_difference.Statement.{statement}
-use Rattle.sums.proofs.high_difference.Tie as tie
+use Rattle.operations.proofs.sums.high_difference.Statement.{statement}
+use Rattle.operations.proofs.sums.high_difference.Tie as tie
 
 returns : tie.Need-returns
 unfolding highDifference

@@ -96,7 +96,7 @@ fn decimal(a: u8, m: u8, f: Flags) -> Result
 }
 
 // In decimal mode the digits are added, else the bytes.
-pub fn adc(a: u8, m: u8, f: Flags) -> Result
+pub(crate) fn adc(a: u8, m: u8, f: Flags) -> Result
     ensures { λ r. ⌜ r ≡ adc a m f ⌝ }
 {
     if f.d {
@@ -133,7 +133,7 @@ fn difference(a: u8, m: u8, c: u16) -> u8
 }
 
 // "SBC subtracts 1 - C more": a - m - (1 - C) is a + (255 - m) + C less 256. In decimal "All flags are the binary ones."
-pub fn sbc(a: u8, m: u8, f: Flags) -> Result
+pub(crate) fn sbc(a: u8, m: u8, f: Flags) -> Result
     ensures { λ r. ⌜ r ≡ sbc a m f ⌝ }
 {
     let plain = binary(a, 255 - m, f);

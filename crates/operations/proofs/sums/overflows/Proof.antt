@@ -1,6 +1,6 @@
 use borrow.Author.Needs.{needs}
-use Rattle.sums.proofs.overflows.Statement.{statement}
-use Rattle.sums.proofs.overflows.Tie as tie
+use Rattle.operations.proofs.sums.overflows.Statement.{statement}
+use Rattle.operations.proofs.sums.overflows.Tie as tie
 
 returns : tie.Need-returns
 returns c = rw (c .leaves .ensures, c .before .signed2 .ensures, c .before .before .signed .ensures)

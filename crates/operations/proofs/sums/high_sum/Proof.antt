@@ -1,8 +1,8 @@
 use borrow.Author.Tests.{le-leb, lt-leb}
 use Rattle.rules.specs.Arithmetic.{highSum}
 use borrow.Author.Needs.{needs}
-use Rattle.sums.proofs.high_sum.Statement.{statement}
-use Rattle.sums.proofs.high_sum.Tie as tie
+use Rattle.operations.proofs.sums.high_sum.Statement.{statement}
+use Rattle.operations.proofs.sums.high_sum.Tie as tie
 
 returns : tie.Need-returns
 unfolding highSum
