@@ -1,4 +1,4 @@
-// What is done at the stack: "Push: PC+1, write at S. Pull: PC+1, read at S, read at S+1", RTS and RTI. One line a bus cycle, in the order of time; PC+1 was read.
+// What is done at the stack: pushes, pulls, RTS and RTI, after PC+1 was read. One line a bus cycle, in the order of time.
 
 use rules::Stacking;
 use wiring::Wiring;
