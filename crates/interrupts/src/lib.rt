@@ -7,7 +7,7 @@ ghost use Rattle.rules.specs.declared.State.{State};
 ghost use Rattle.rules.specs.Cycles.{execution};
 ghost use Rattle.rules.specs.Interrupts.{interrupt, reset};
 ghost use Rattle.wiring.specs.Wiring.{Stands, Ready};
-ghost use Rattle.bus.specs.Goes.{Goes, Does};
+ghost use Rattle.laws.specs.Goes.{Goes, Does};
 ghost use Rattle.interrupts.specs.Reads.{twoReads, threeReads};
 
 // "read PC twice"
@@ -15,8 +15,8 @@ fn two_reads(state: &[u8], w: Wiring, image: &[u8], list: &mut [u8], pc: u16)
     requires { ⌜ Ready w (length (now state)) (length (now image)) (length (now list)) ⌝ }
     ensures { λ r. ⌜ ((t : State) → Stands execution t (now (state .entry)) w → Goes (twoReads pc) 0 (t .bus) (now (image .entry)) (now (list .entry)) tt 2 (t .bus) (now (image .entry)) (now (list .exit))) ⌝ }
 {
-    bus::read(state, w, image, list, 0, pc);
-    bus::read(state, w, image, list, 1, pc);
+    reads::read(state, w, image, list, 0, pc);
+    reads::read(state, w, image, list, 1, pc);
 }
 
 // "IRQ, NMI: read PC twice, push PC high, low, P (bit 4 clear), read the vector (FFFE, FFFA), set I."
@@ -39,9 +39,9 @@ fn three_reads(state: &[u8], w: Wiring, image: &[u8], list: &mut [u8], s: u8)
 {
     let one = bytes::stack(bytes::down(1, s));
     let two = bytes::stack(bytes::down(2, s));
-    bus::read(state, w, image, list, 2, bytes::stack(s));
-    bus::read(state, w, image, list, 3, one);
-    bus::read(state, w, image, list, 4, two);
+    reads::read(state, w, image, list, 2, bytes::stack(s));
+    reads::read(state, w, image, list, 3, one);
+    reads::read(state, w, image, list, 4, two);
 }
 
 // "RES: the same with three stack reads in place of pushes, S lowered by 3, vector FFFC, I set, D kept"

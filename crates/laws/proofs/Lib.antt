@@ -1,4 +1,4 @@
--- What follows from the definitions of rules, of every step, run, record and restart file.
+-- What follows from the definitions of rules, of every step, run, record and restart file, and how functions that follow a tree are put together.
 pub mod Tests
 pub mod Lists
 pub mod Cycles
@@ -10,3 +10,4 @@ pub mod Runs
 pub mod Restarts
 pub mod Images
 pub mod Texts
+pub mod Goes

@@ -15,9 +15,9 @@ use Rattle.rules.specs.Operations.{withPc, perform, next, operate}
 use Rattle.laws.proofs.Entries.{fetchedBy}
 use Rattle.table.specs.Numbers.{numberOf, made}
 use Rattle.table.proofs.Decodes.{everywhere, made-is}
-use Rattle.bus.specs.Goes.{Goes, Does}
+use Rattle.laws.specs.Goes.{Goes, Does}
 use Rattle.laws.specs.States.{moved}
-use Rattle.bus.proofs.Laws.{read-does}
+use Rattle.laws.proofs.Goes.{read-does}
 use Rattle.processor.specs.Begun.{begun, short}
 
 abbrev instructionOf : ℕ → ℕ → Entry → Instruction

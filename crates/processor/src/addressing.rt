@@ -9,7 +9,7 @@ ghost use Rattle.rules.specs.declared.State.{State};
 ghost use Rattle.rules.specs.Cycles.{Bank, execution};
 ghost use Rattle.rules.specs.Addressing.{oldPage, pointer, zeroIndexed, loadIndexed, indexed, load, place};
 ghost use Rattle.wiring.specs.Wiring.{Stands, Ready};
-ghost use Rattle.bus.specs.Goes.{Goes};
+ghost use Rattle.laws.specs.Goes.{Goes};
 ghost use Rattle.processor.specs.Start.{fetchedOf};
 ghost use Rattle.laws.proofs.Lengths.{placeMost};
 
@@ -41,8 +41,8 @@ fn pointer(state: &[u8], w: Wiring, image: &[u8], list: &mut [u8], k: usize, z: 
     ensures { λ r. ⌜ ((s : State) → Stands execution s (now (state .entry)) w → Goes (pointer z) k (s .bus) (now (image .entry)) (now (list .entry)) r (k + 2) (s .bus) (now (image .entry)) (now (list .exit))) ⌝ }
 {
     let next = std::num::wrapping_add_u8(z, 1) as u16;
-    let low = bus::read(state, w, image, list, k, z as u16);
-    let high = bus::read(state, w, image, list, k + 1, next);
+    let low = reads::read(state, w, image, list, k, z as u16);
+    let high = reads::read(state, w, image, list, k + 1, next);
     bytes::join(low, high)
 }
 
@@ -51,7 +51,7 @@ fn zero_indexed(state: &[u8], w: Wiring, image: &[u8], list: &mut [u8], z: u8, i
     requires { ⌜ Ready w (length (now state)) (length (now image)) (length (now list)) ⌝ }
     ensures { λ r. ⌜ ((s : State) → Stands execution s (now (state .entry)) w → Goes (zeroIndexed z i) 2 (s .bus) (now (image .entry)) (now (list .entry)) r 3 (s .bus) (now (image .entry)) (now (list .exit))) ⌝ }
 {
-    bus::read(state, w, image, list, 2, z as u16);
+    reads::read(state, w, image, list, 2, z as u16);
     std::num::wrapping_add_u8(z, i)
 }
 
@@ -60,7 +60,7 @@ fn indexed(state: &[u8], w: Wiring, image: &[u8], list: &mut [u8], k: usize, a: 
     requires { ⌜ (k < 7) × Ready w (length (now state)) (length (now image)) (length (now list)) ⌝ }
     ensures { λ r. ⌜ ((s : State) (κ : Bank) → Stands κ s (now (state .entry)) w → Goes (indexed κ a i) k (s .bus) (now (image .entry)) (now (list .entry)) r (k + 1) (s .bus) (now (image .entry)) (now (list .exit))) ⌝ }
 {
-    bus::read(state, w, image, list, k, old_page(a, i));
+    reads::read(state, w, image, list, k, old_page(a, i));
     std::num::wrapping_add_u16(a, i as u16)
 }
 
@@ -79,14 +79,14 @@ fn load_indexed(
 {
     let near = old_page(a, i);
     let sum = std::num::wrapping_add_u16(a, i as u16);
-    let first = bus::read(state, w, image, list, k, near);
+    let first = reads::read(state, w, image, list, k, near);
     if sum / 256 == a / 256 {
         return Loaded {
             value: first,
             count: k + 1,
         };
     }
-    let second = bus::read(state, w, image, list, k + 1, sum);
+    let second = reads::read(state, w, image, list, k + 1, sum);
     Loaded {
         value: second,
         count: k + 2,
@@ -101,25 +101,25 @@ pub(crate) fn load(m: Mode, state: &[u8], w: Wiring, image: &[u8], list: &mut [u
     match m {
         Mode::Immediate(v) => Loaded { value: v, count: 2 },
         Mode::Zero(z) => Loaded {
-            value: bus::read(state, w, image, list, 2, z as u16),
+            value: reads::read(state, w, image, list, 2, z as u16),
             count: 3,
         },
         Mode::ZeroX(z) => {
             let at = zero_indexed(state, w, image, list, z, state[state::X]);
             Loaded {
-                value: bus::read(state, w, image, list, 3, at as u16),
+                value: reads::read(state, w, image, list, 3, at as u16),
                 count: 4,
             }
         }
         Mode::ZeroY(z) => {
             let at = zero_indexed(state, w, image, list, z, state[state::Y]);
             Loaded {
-                value: bus::read(state, w, image, list, 3, at as u16),
+                value: reads::read(state, w, image, list, 3, at as u16),
                 count: 4,
             }
         }
         Mode::Absolute(a) => Loaded {
-            value: bus::read(state, w, image, list, 3, a),
+            value: reads::read(state, w, image, list, 3, a),
             count: 4,
         },
         Mode::AbsoluteX(a) => load_indexed(state, w, image, list, 3, a, state[state::X]),
@@ -128,7 +128,7 @@ pub(crate) fn load(m: Mode, state: &[u8], w: Wiring, image: &[u8], list: &mut [u
             let at = zero_indexed(state, w, image, list, z, state[state::X]);
             let a = pointer(state, w, image, list, 3, at);
             Loaded {
-                value: bus::read(state, w, image, list, 5, a),
+                value: reads::read(state, w, image, list, 5, a),
                 count: 6,
             }
         }

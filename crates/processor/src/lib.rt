@@ -26,7 +26,7 @@ ghost use Rattle.table.specs.Numbers.{numberOf};
 ghost use Rattle.rules.specs.Flags.{withI};
 ghost use Rattle.state.specs.Makes.{Makes};
 ghost use Rattle.wiring.specs.Wiring.{Stands, Ready};
-ghost use Rattle.bus.specs.Goes.{Goes, Does};
+ghost use Rattle.laws.specs.Goes.{Goes, Does};
 ghost use Rattle.laws.proofs.Lengths.{placeMost};
 ghost use Rattle.processor.specs.Rewritten.{rewritten};
 ghost use Rattle.processor.specs.Begun.{begun, short};
@@ -78,7 +78,7 @@ fn store(
     let there = wiring_of(m, state, w);
     let v = register_of(o, state);
     let k = at.count;
-    bus::write(state, there, image, list, k, at.address, v);
+    writes::write(state, there, image, list, k, at.address, v);
     k + 1
 }
 
@@ -98,8 +98,8 @@ fn rewrite(
 {
     let f = state::flags_of(state);
     let made = arithmetic::changed(o, v, f);
-    bus::write(state, w, image, list, k, a, v);
-    bus::write(state, w, image, list, k + 1, a, made.value);
+    writes::write(state, w, image, list, k, a, v);
+    writes::write(state, w, image, list, k + 1, a, made.value);
     let after = made.flags;
     state::set_flags(state, after);
 }
@@ -118,7 +118,7 @@ fn change(
     let at = addressing::place(m, state, w, image, list);
     let k = at.count;
     let a = at.address;
-    let v = bus::read(state, w, image, list, k, a);
+    let v = reads::read(state, w, image, list, k, a);
     rewrite(o, k + 1, a, v, state, w, image, list);
     k + 3
 }
@@ -147,12 +147,12 @@ fn branch(t: Condition, o: u8, state: &mut [u8], w: Wiring, image: &[u8], list: 
     if taken(t, state::flags_of(state)) {
         let pc = state::pc_of(state);
         let to = bytes::target(pc, o);
-        bus::read(state, w, image, list, 2, pc);
+        reads::read(state, w, image, list, 2, pc);
         if to / 256 == pc / 256 {
             state::set_pc(state, to);
             return 3;
         }
-        bus::read(state, w, image, list, 3, pc / 256 * 256 + to % 256);
+        reads::read(state, w, image, list, 3, pc / 256 * 256 + to % 256);
         state::set_pc(state, to);
         return 4;
     }
@@ -182,9 +182,9 @@ fn jsr(low: u8, state: &mut [u8], w: Wiring, image: &mut [u8], list: &mut [u8])
 {
     let s = state[state::S];
     let pc = state::pc_of(state);
-    bus::read(state, w, image, list, 2, bytes::stack(s));
-    stack::push_pc(w, image, list, 3, pc, s);
-    let high = bus::read(state, w, image, list, 5, pc);
+    reads::read(state, w, image, list, 2, bytes::stack(s));
+    writes::push_pc(w, image, list, 3, pc, s);
+    let high = reads::read(state, w, image, list, 5, pc);
     state::set_s(state, bytes::down(2, s));
     state::set_pc(state, bytes::join(low, high));
 }
@@ -207,7 +207,7 @@ fn jump_indirect(a: u16, state: &mut [u8], w: Wiring, image: &[u8], list: &mut [
     ensures { λ r. ⌜ ((s : State) → Stands execution s (now (state .entry)) w → Does (jumpIndirect a (s .cpu)) 3 s (now (image .entry)) (now (list .entry)) 5 (now (state .exit)) (now (image .entry)) (now (list .exit))) ⌝ }
 {
     let next = std::num::wrapping_add_u16(a, 1);
-    let to = stack::word_at(state, w, image, list, 3, a, next);
+    let to = reads::word_at(state, w, image, list, 3, a, next);
     state::set_pc(state, to);
 }
 
@@ -289,7 +289,7 @@ fn high_operand(size: u16, state: &[u8], w: Wiring, image: &[u8], list: &mut [u8
     ensures { λ r. ⌜ ((s : State) → Stands execution s (now (state .entry)) w → size ≡ 3 → Goes (read execution a done) 2 (s .bus) (now (image .entry)) (now (list .entry)) r 3 (s .bus) (now (image .entry)) (now (list .exit))) × ((size ≡ 3 → ⊥) → now (list .exit) ≡ now (list .entry)) ⌝ }
 {
     if size == 3 {
-        return bus::read(state, w, image, list, 2, a);
+        return reads::read(state, w, image, list, 2, a);
     }
     0
 }
@@ -311,7 +311,7 @@ pub fn instruction(
     let one = std::num::wrapping_add_u16(pc, 1);
     let two = std::num::wrapping_add_u16(pc, 2);
     let after = std::num::wrapping_add_u16(pc, size);
-    let low = bus::read(state, w, image, list, 1, one);
+    let low = reads::read(state, w, image, list, 1, one);
     let high = high_operand(size, state, w, image, list, two);
     let i = decode::instruction_of(entry, low, high);
     state::set_pc(state, after);

@@ -8,7 +8,7 @@ ghost use Rattle.rules.specs.declared.State.{State};
 ghost use Rattle.rules.specs.Cycles.{execution};
 ghost use Rattle.rules.specs.Operations.{enter};
 ghost use Rattle.wiring.specs.Wiring.{Wired, Stands, Ready};
-ghost use Rattle.bus.specs.Goes.{Goes, Does};
+ghost use Rattle.laws.specs.Goes.{Goes, Does};
 ghost use Rattle.sequence.specs.Pushes.{pushThree};
 
 // "push PC high, low, P"
@@ -16,8 +16,8 @@ pub fn push_three(w: Wiring, image: &mut [u8], list: &mut [u8], pc: u16, s: u8, 
     requires { ⌜ Ready w 16 (length (now image)) (length (now list)) ⌝ }
     ensures { λ r. ⌜ ((u : Bus) → Wired execution w u → Goes (pushThree pc s p) 2 u (now (image .entry)) (now (list .entry)) tt 5 u (now (image .exit)) (now (list .exit))) ⌝ }
 {
-    stack::push_pc(w, image, list, 2, pc, s);
-    bus::push(w, image, list, 4, bytes::down(2, s), p);
+    writes::push_pc(w, image, list, 2, pc, s);
+    writes::push(w, image, list, 4, bytes::down(2, s), p);
 }
 
 // How BRK, an interrupt and a reset end: S is lower by 3, "read the vector", "set I".
@@ -27,7 +27,7 @@ pub fn enter(vector: u16, state: &mut [u8], w: Wiring, image: &[u8], list: &mut 
 {
     let s = state[state::S];
     let f = flags::with_i(true, state::flags_of(state));
-    let to = stack::word_at(state, w, image, list, 5, vector, vector + 1);
+    let to = reads::word_at(state, w, image, list, 5, vector, vector + 1);
     state::set_flags(state, f);
     state::set_s(state, bytes::down(3, s));
     state::set_pc(state, to);

@@ -12,8 +12,8 @@ ghost use Rattle.rules.specs.Cycles.{execution};
 ghost use Rattle.rules.specs.Operations.{withS, withPc, stack, push, rts, rti, atStack};
 ghost use Rattle.state.specs.Makes.{Makes};
 ghost use Rattle.wiring.specs.Wiring.{Stands, Ready};
-ghost use Rattle.bus.specs.Goes.{Goes, Does};
-ghost use Rattle.stack.specs.Words.{wordAt};
+ghost use Rattle.laws.specs.Goes.{Goes, Does};
+ghost use Rattle.reads.specs.Words.{wordAt};
 ghost use Rattle.stacking.specs.Pulled.{pulledAt};
 
 // "Push: PC+1, write at S."
@@ -22,7 +22,7 @@ fn push(v: u8, state: &mut [u8], w: Wiring, image: &mut [u8], list: &mut [u8])
     ensures { λ r. ⌜ ((s : State) → Stands execution s (now (state .entry)) w → Does (push v (s .cpu)) 2 s (now (image .entry)) (now (list .entry)) 3 (now (state .exit)) (now (image .exit)) (now (list .exit))) ⌝ }
 {
     let s = state[state::S];
-    bus::push(w, image, list, 2, s, v);
+    writes::push(w, image, list, 2, s, v);
     state::set_s(state, bytes::down(1, s));
 }
 
@@ -39,8 +39,8 @@ fn pulled(state: &[u8], w: Wiring, image: &[u8], list: &mut [u8], s: u8) -> u8
     ensures { λ r. ⌜ ((t : State) → Stands execution t (now (state .entry)) w → Goes (pulledAt s) 2 (t .bus) (now (image .entry)) (now (list .entry)) r 4 (t .bus) (now (image .entry)) (now (list .exit))) ⌝ }
 {
     let above = bytes::stack(up(1, s));
-    bus::read(state, w, image, list, 2, bytes::stack(s));
-    bus::read(state, w, image, list, 3, above)
+    reads::read(state, w, image, list, 2, bytes::stack(s));
+    reads::read(state, w, image, list, 3, above)
 }
 
 // "PLP, RTI keep 5 set, 4 clear"
@@ -80,7 +80,7 @@ fn word_above(state: &[u8], w: Wiring, image: &[u8], list: &mut [u8], k: usize, 
 {
     let one = bytes::stack(up(1, s));
     let two = bytes::stack(up(2, s));
-    stack::word_at(state, w, image, list, k, one, two)
+    reads::word_at(state, w, image, list, k, one, two)
 }
 
 // "RTS: PC+1, read at S, pull low, high, read there; PC is one more."
@@ -89,9 +89,9 @@ fn rts(state: &mut [u8], w: Wiring, image: &[u8], list: &mut [u8])
     ensures { λ r. ⌜ ((s : State) → Stands execution s (now (state .entry)) w → Does (rts (s .cpu)) 2 s (now (image .entry)) (now (list .entry)) 6 (now (state .exit)) (now (image .entry)) (now (list .exit))) ⌝ }
 {
     let s = state[state::S];
-    bus::read(state, w, image, list, 2, bytes::stack(s));
+    reads::read(state, w, image, list, 2, bytes::stack(s));
     let a = word_above(state, w, image, list, 3, s);
-    bus::read(state, w, image, list, 5, a);
+    reads::read(state, w, image, list, 5, a);
     set_s_pc(state, up(2, s), std::num::wrapping_add_u16(a, 1));
 }
 
@@ -104,7 +104,7 @@ fn rti(state: &mut [u8], w: Wiring, image: &[u8], list: &mut [u8])
     let two = bytes::stack(up(2, s));
     let three = bytes::stack(up(3, s));
     let p = pulled(state, w, image, list, s);
-    let to = stack::word_at(state, w, image, list, 4, two, three);
+    let to = reads::word_at(state, w, image, list, 4, two, three);
     state::set_flags(state, flags::flags_of(p));
     set_s_pc(state, up(3, s), to);
 }

@@ -20,7 +20,7 @@ ghost use Rattle.rules.specs.Step.{busAt, ranOf, finished, step};
 ghost use Rattle.table.specs.Numbers.{numberOf};
 ghost use Rattle.wiring.specs.Wiring.{Sound, Stands, Ready};
 ghost use Rattle.checks.specs.Checks.{Fits};
-ghost use Rattle.bus.specs.Goes.{Does};
+ghost use Rattle.laws.specs.Goes.{Does};
 ghost use Rattle.laws.specs.States.{moved};
 ghost use Rattle.step.specs.Parts.{vectorOf, closed, resetOf, left, advanced, Begins};
 
@@ -180,7 +180,7 @@ fn run_instruction(
 {
     let w = wiring::wire(state, pins, banks);
     let pc = state::pc_of(state);
-    let opcode = bus::look(state, w, image, pc);
+    let opcode = reads::look(state, w, image, pc);
     let entry = table::entry_of(opcode);
     if entry == 255 {
         return StepAnswer::Refused(Refusal::Undefined {

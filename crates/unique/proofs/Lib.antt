@@ -1,7 +1,8 @@
 pub mod Admission
 pub mod Arithmetic
 pub mod Board
-pub mod Bus
+pub mod BusReads
+pub mod BusWrites
 pub mod Bytes
 pub mod Checks
 pub mod Decode
@@ -17,7 +18,6 @@ pub mod Relations
 pub mod Restart
 pub mod Run
 pub mod Sequence
-pub mod Stack
 pub mod Stacking
 pub mod State
 pub mod Step

@@ -13,7 +13,7 @@ use Rattle.rules.specs.Bus.{World, world, images, board, listOf}
 use Rattle.rules.specs.Record.{recordOf}
 use Rattle.rules.specs.Step.{Outcome}
 use Rattle.wiring.specs.declared.Wiring.{Wiring}
-use Rattle.bus.specs.Goes.{Goes, Writes, Does}
+use Rattle.laws.specs.Goes.{Goes, Writes, Does}
 use Rattle.laws.specs.States.{moved}
 use Rattle.wiring.specs.Wiring.{Wired}
 use Rattle.step.specs.Parts.{left}

@@ -1,4 +1,4 @@
-use Rattle.bus.proofs.Laws.{does, ended, then-read}
+use Rattle.laws.proofs.Goes.{does, ended, then-read}
 use Rattle.rules.specs.Cycles.{execution, _>>=_}
 use Rattle.rules.specs.Operations.{perform, branchTo}
 use native.Mathlib.Omega.{arith}

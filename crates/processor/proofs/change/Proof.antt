@@ -1,5 +1,5 @@
 use Rattle.processor.proofs.Back.{looked, recounted}
-use Rattle.bus.proofs.Laws.{call-does, read-does}
+use Rattle.laws.proofs.Goes.{call-does, read-does}
 use Rattle.rules.specs.Cycles.{execution, _>>=_}
 use Rattle.rules.specs.Operations.{perform}
 use native.Mathlib.Omega.{arith}

@@ -1,5 +1,5 @@
 use mathlib.Core.Path.{_∙_}
-use Rattle.bus.proofs.Laws.{does, ended, then-read, then-do}
+use Rattle.laws.proofs.Goes.{does, ended, then-read, then-do}
 use Rattle.rules.specs.Cycles.{execution, _>>=_}
 use Rattle.rules.specs.Operations.{jsr}
 use Rattle.state.proofs.Registers.{s-of}

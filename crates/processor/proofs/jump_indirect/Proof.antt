@@ -1,6 +1,6 @@
 use Rattle.rules.specs.Cycles.{done}
 use Rattle.rules.specs.Operations.{withPc}
-use Rattle.bus.proofs.Laws.{does, ended, then-call}
+use Rattle.laws.proofs.Goes.{does, ended, then-call}
 use Rattle.rules.specs.Cycles.{_>>=_}
 use Rattle.rules.specs.Operations.{jumpIndirect}
 use borrow.Author.Needs.{needs}

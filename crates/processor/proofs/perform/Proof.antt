@@ -1,7 +1,7 @@
 use Rattle.rules.specs.Operations.{perform}
 use native.Mathlib.Omega.{arith}
 use borrow.Author.Tests.{leb-true}
-use Rattle.bus.proofs.Laws.{does, ended}
+use Rattle.laws.proofs.Goes.{does, ended}
 use borrow.Author.Needs.{needs}
 use Rattle.processor.proofs.perform.Statement.{statement}
 use Rattle.processor.proofs.perform.Tie as tie

@@ -1,4 +1,4 @@
-use Rattle.bus.proofs.Laws.{does, ended, then-call}
+use Rattle.laws.proofs.Goes.{does, ended, then-call}
 use Rattle.rules.specs.Cycles.{done}
 use Rattle.rules.specs.Operations.{perform, used}
 use native.Mathlib.Omega.{arith}

@@ -1,6 +1,6 @@
 use Rattle.processor.proofs.Back.{back}
 use mathlib.Core.Path.{_∙_}
-use Rattle.bus.proofs.Laws.{ended, then-write, counted}
+use Rattle.laws.proofs.Goes.{ended, then-write, counted}
 use Rattle.rules.specs.Cycles.{execution, _>>=_}
 use native.Mathlib.Omega.{arith}
 use borrow.Author.Needs.{needs}

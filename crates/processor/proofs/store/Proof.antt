@@ -1,5 +1,5 @@
 use native.Mathlib.Omega.{arith}
-use Rattle.bus.proofs.Laws.{then-call, then-write, counted, ended}
+use Rattle.laws.proofs.Goes.{then-call, then-write, counted, ended}
 use Rattle.rules.specs.Cycles.{done, write}
 use Rattle.rules.specs.Addressing.{bankOf}
 use Rattle.rules.specs.Operations.{perform, registerOf}

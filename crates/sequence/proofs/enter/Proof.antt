@@ -1,6 +1,6 @@
 use mathlib.Core.Path.{_∙_}
 use mathlib.Core.Bool.{true}
-use Rattle.bus.proofs.Laws.{does, ended, then-call}
+use Rattle.laws.proofs.Goes.{does, ended, then-call}
 use Rattle.rules.specs.Cycles.{done, _>>=_}
 use Rattle.rules.specs.Flags.{withI}
 use Rattle.rules.specs.Operations.{enter, down, withPc, withP, withS}

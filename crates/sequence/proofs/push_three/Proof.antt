@@ -1,4 +1,4 @@
-use Rattle.bus.proofs.Laws.{then-do}
+use Rattle.laws.proofs.Goes.{then-do}
 use Rattle.rules.specs.Cycles.{execution, _>>=_}
 use borrow.Author.Needs.{needs}
 use Rattle.sequence.proofs.push_three.Statement.{statement}

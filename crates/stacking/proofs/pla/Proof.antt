@@ -1,4 +1,4 @@
-use Rattle.bus.proofs.Laws.{does, ended, then-call}
+use Rattle.laws.proofs.Goes.{does, ended, then-call}
 use Rattle.rules.specs.Cycles.{done, _>>=_}
 use Rattle.rules.specs.Basics.{sum8}
 use Rattle.rules.specs.Operations.{pull, toA, withS}

@@ -1,4 +1,4 @@
-use Rattle.bus.proofs.Laws.{then-read}
+use Rattle.laws.proofs.Goes.{then-read}
 use Rattle.rules.specs.Cycles.{execution, _>>=_}
 use borrow.Author.Needs.{needs}
 use Rattle.stacking.proofs.pulled.Statement.{statement}

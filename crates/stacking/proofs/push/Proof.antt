@@ -1,4 +1,4 @@
-use Rattle.bus.proofs.Laws.{does, ended, then-write}
+use Rattle.laws.proofs.Goes.{does, ended, then-write}
 use Rattle.rules.specs.Cycles.{execution, _>>=_}
 use Rattle.rules.specs.Operations.{push}
 use borrow.Author.Needs.{needs}

@@ -1,7 +1,7 @@
 use mathlib.Core.Path.{_∙_}
-use Rattle.stack.specs.Words.{wordAt}
+use Rattle.reads.specs.Words.{wordAt}
 use Rattle.rules.specs.Operations.{stack}
-use Rattle.bus.proofs.Laws.{does, ended, then-call}
+use Rattle.laws.proofs.Goes.{does, ended, then-call}
 use Rattle.rules.specs.Cycles.{done, _>>=_}
 use Rattle.rules.specs.Basics.{sum8}
 use Rattle.rules.specs.Flags.{flagsOf}

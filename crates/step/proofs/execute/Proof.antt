@@ -1,4 +1,4 @@
-use Rattle.bus.proofs.Laws.{reads, read-does}
+use Rattle.laws.proofs.Goes.{reads, read-does}
 use Rattle.rules.specs.Cycles.{execution, _>>=_}
 use Rattle.rules.specs.Operations.{instruction}
 use borrow.Author.Needs.{needs}

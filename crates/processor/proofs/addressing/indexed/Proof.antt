@@ -1,4 +1,4 @@
-use Rattle.bus.proofs.Laws.{then-read, ended}
+use Rattle.laws.proofs.Goes.{then-read, ended}
 use Rattle.rules.specs.Addressing.{indexed}
 use borrow.Author.Needs.{needs}
 use Rattle.processor.proofs.addressing.indexed.Statement.{statement}

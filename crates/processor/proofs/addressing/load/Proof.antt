@@ -1,5 +1,5 @@
 use native.Mathlib.Omega.{arith}
-use Rattle.bus.proofs.Laws.{then-call, ended}
+use Rattle.laws.proofs.Goes.{then-call, ended}
 use Rattle.rules.specs.Cycles.{execution, indirect}
 use Rattle.rules.specs.Record.{recordOf}
 use Rattle.rules.specs.Addressing.{load}

@@ -1,4 +1,4 @@
-use Rattle.bus.proofs.Laws.{ended, then-read, counted}
+use Rattle.laws.proofs.Goes.{ended, then-read, counted}
 use native.Mathlib.Omega.{arith}
 use borrow.Author.Tests.{eq-eqb, ne-eqb}
 use Rattle.rules.specs.Addressing.{loadIndexed}

@@ -1,4 +1,4 @@
-use Rattle.bus.proofs.Laws.{then-call, ended}
+use Rattle.laws.proofs.Goes.{then-call, ended}
 use Rattle.rules.specs.Cycles.{execution, indirect}
 use Rattle.rules.specs.Record.{recordOf}
 use Rattle.rules.specs.Addressing.{place}

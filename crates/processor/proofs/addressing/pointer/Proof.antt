@@ -1,4 +1,4 @@
-use Rattle.bus.proofs.Laws.{ended, then-read, counted}
+use Rattle.laws.proofs.Goes.{ended, then-read, counted}
 use Rattle.rules.specs.Cycles.{execution, _>>=_}
 use native.Mathlib.Omega.{arith}
 use Rattle.rules.specs.Addressing.{pointer}

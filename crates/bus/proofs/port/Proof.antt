@@ -1,6 +1,0 @@
-use borrow.Author.Needs.{needs}
-use Rattle.bus.proofs.port.Statement.{statement}
-use Rattle.bus.proofs.port.Tie as tie
-
-pub port-spec : {M : Type 1} → statement M
-port-spec = tie.close (tie.spec (λ c. search needs) (λ c. search needs))

@@ -1,2 +1,0 @@
-pub mod Cells
-pub mod Goes
