@@ -1,10 +1,9 @@
 use Rattle.processor.proofs.Back.{looked, recounted}
 use Rattle.laws.proofs.Goes.{call-does, read-does}
-use Rattle.rules.specs.Cycles.{execution, _>>=_}
+use Rattle.rules.specs.Cycles.{execution, _>>=_, read}
 use Rattle.rules.specs.Operations.{perform}
 use native.Mathlib.Omega.{arith}
 use Rattle.processor.specs.Rewritten.{rewritten}
-use Rattle.rules.specs.Cycles.{read}
 use borrow.Author.Needs.{needs}
 use Rattle.processor.proofs.change.Statement.{statement}
 use Rattle.processor.proofs.change.Tie as tie

@@ -1,8 +1,6 @@
-use Rattle.rules.specs.Cycles.{done}
-use Rattle.rules.specs.Operations.{withPc}
+use Rattle.rules.specs.Cycles.{done, _>>=_}
+use Rattle.rules.specs.Operations.{withPc, jumpIndirect}
 use Rattle.laws.proofs.Goes.{does, ended, then-call}
-use Rattle.rules.specs.Cycles.{_>>=_}
-use Rattle.rules.specs.Operations.{jumpIndirect}
 use borrow.Author.Needs.{needs}
 use Rattle.processor.proofs.jump_indirect.Statement.{statement}
 use Rattle.processor.proofs.jump_indirect.Tie as tie

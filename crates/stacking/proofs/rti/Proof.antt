@@ -1,11 +1,10 @@
 use mathlib.Core.Path.{_∙_}
 use Rattle.reads.specs.Words.{wordAt}
-use Rattle.rules.specs.Operations.{stack}
+use Rattle.rules.specs.Operations.{stack, rti, withPc, withP, withS}
 use Rattle.laws.proofs.Goes.{does, ended, then-call}
 use Rattle.rules.specs.Cycles.{done, _>>=_}
 use Rattle.rules.specs.Basics.{sum8}
 use Rattle.rules.specs.Flags.{flagsOf}
-use Rattle.rules.specs.Operations.{rti, withPc, withP, withS}
 use borrow.Author.Needs.{needs}
 use Rattle.state.proofs.Registers.{s-of}
 use Rattle.stacking.proofs.rti.Statement.{statement}

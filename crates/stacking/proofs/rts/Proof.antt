@@ -1,9 +1,7 @@
-use Rattle.rules.specs.Cycles.{done, read}
+use Rattle.rules.specs.Cycles.{done, read, execution, _>>=_}
 use Rattle.rules.specs.Basics.{sum8, sum16}
-use Rattle.rules.specs.Operations.{withS, withPc}
+use Rattle.rules.specs.Operations.{withS, withPc, rts}
 use Rattle.laws.proofs.Goes.{does, ended, then-read, then-call}
-use Rattle.rules.specs.Cycles.{execution, _>>=_}
-use Rattle.rules.specs.Operations.{rts}
 use borrow.Author.Needs.{needs}
 use Rattle.state.proofs.Registers.{s-of}
 use Rattle.stacking.proofs.rts.Statement.{statement}
