@@ -1,6 +1,6 @@
 /*
- * Wankitare: a 6502, 6508 or 6509, one step or a run of steps at a time, the file that it restarts from, and the
- * admission of 6502 images.
+ * Wankitare: a 6502, 6508 or 6509, one step or a run of steps at a time, the file that it restarts from, the admission
+ * of 6502 images, and the counting of accesses by page.
  *
  * The board lends all memory: a state record of 16 bytes, the memory image and room for a list of bus accesses. The
  * library keeps nothing between calls and allocates nothing, so calls on different buffers may be made on different
@@ -16,8 +16,9 @@
  *
  * Nothing checks what C hands over: a pointer must lead to as many bytes as the length beside it says. What a call may
  * write must overlap nothing else that the same call was given: not record, image and access buffer, not script, *steps
- * and *listed. What calls only read (a script, a restart file, an admitted image and its map) may be shared and may lie
- * in read-only memory. No buffer needs any alignment, and an empty one may have any pointer.
+ * and *listed, not the counts of reads and of writes. What calls only read (a script, a restart file, an admitted image
+ * and its map, a list that is counted) may be shared and may lie in read-only memory. No buffer of bytes needs any
+ * alignment, and an empty one may have any pointer; 64-bit numbers are aligned as C aligns them.
  */
 #ifndef WANKITARE_H
 #define WANKITARE_H
@@ -32,7 +33,8 @@ extern "C" {
 /*
  * Refusals. A step tests 1 to 6 in this order and the first that applies is given; a refused step has changed no byte
  * of any buffer. A run tests 1, 2, 3 and 7 before anything, then 4 to 6 in each step. Of a restart file 8 is tested,
- * then 2. Admission tests 10, then 11 at each record, then 12, then 13 to 16 at each record.
+ * then 2. Admission tests 10, then 11 at each record, then 12, then 13 to 16 at each record. Counting by page tests 20,
+ * then 21 at each record, then 22, before it counts anything.
  */
 enum {
     /* record_len is not 16. */
@@ -88,7 +90,17 @@ enum {
 
     /* An instruction that it leads to has no record, or one of another kind, a height that does not follow, or more
        need than it leaves; or a JSR calls what is no routine of height 0, or one that needs too much. */
-    WANKITARE_SUCCESSOR = 16
+    WANKITARE_SUCCESSOR = 16,
+
+    /* Counting by page: accesses_len is no multiple of 8, so the list is cut. */
+    WANKITARE_LIST_LENGTH = 20,
+
+    /* A record of the list is none that a step could have listed: its byte 4 is above 1, or one of its bytes 5 to 7 is
+       not 0. */
+    WANKITARE_LIST_RECORD = 21,
+
+    /* All 512 counts together would pass 64 bits. Counts that were never set to zero may be why. */
+    WANKITARE_TOTAL = 22
 };
 
 /* Lengths in bytes. */
@@ -101,6 +113,9 @@ enum {
     WANKITARE_MAP_RECORD_BYTES = 8,
     WANKITARE_MOST_MAP_BYTES = 65536
 };
+
+/* How many pages an address can lie in, and so how many counts of reads, and of writes, there are. */
+enum { WANKITARE_PAGES = 256 };
 
 /* Where things stand in the state record. "Malformed" (2) is whatever breaks what is said here. */
 enum {
@@ -261,6 +276,24 @@ uint64_t wankitare_append_at(uint64_t file_len);
  * step still refuses what is no fault of the image: a wrong length, lines or pins that the part has not.)
  */
 uint64_t wankitare_admit(const uint8_t *image, size_t image_len, uint8_t c, const uint8_t *map, size_t map_len);
+
+/*
+ * Counts a list of accesses by page: where a firmware spends itself.
+ *
+ *     static uint64_t reads[WANKITARE_PAGES], writes[WANKITARE_PAGES];
+ *
+ *     word = wankitare_pages(reads, writes, accesses, WANKITARE_ACCESS_BYTES * listed);
+ *
+ * reads     256 counts, one for each page: each read of the list adds one to that of its page (the high byte of its
+ *           address). Set them to zero before the first list.
+ * writes    The same for writes. One that protection stopped counts: the bus saw it.
+ * accesses  The list of a step, of a run, or any number of them one after the other, of any part. Banks are ignored.
+ *
+ * Lists that are fed one after another leave the counts of all of them joined, and all counts together are the number
+ * of accesses. Answers 0, or the word of 20, 21 or 22, and then every count is as it was. A call goes over all 512
+ * counts once, whatever the list, to see that they cannot overflow: feed a run's list rather than each step's.
+ */
+uint64_t wankitare_pages(uint64_t *reads, uint64_t *writes, const uint8_t *accesses, size_t accesses_len);
 
 /* The refusal's number, or 0 where there was none. */
 static inline unsigned wankitare_refusal(uint64_t word)

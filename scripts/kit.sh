@@ -13,6 +13,13 @@ kit=$(dirname "$(dirname "$guide")")
 own=$kit/on/$machine
 tools=$own/toolchain
 [ -d "$own" ] || fail "the Rattle kit has nothing for a machine of this kind, $machine: it needs x86-64 or Arm (aarch64)"
+emulator=$tools/bin/qemu-x86_64
+[ -x "$emulator" ] || emulator=
+
+# Runs a program that the kit linked: with the kit's C library, and under its emulator where the processor is not x86-64.
+linked() { # PROGRAM WORDS..
+    ${emulator:+"$emulator"} "$tools/lib/ld-linux-x86-64.so.2" --library-path "$tools/lib" "$@"
+}
 
 works() { # PACKAGE: whether what it brings is there
     case $1 in
