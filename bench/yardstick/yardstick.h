@@ -1,4 +1,5 @@
-/* A C core with the board's interface, built twice from one source: what a step and a run may cost. */
+/* A C core with the board's interface, built twice from one source: what a step and a run may cost. And what counting
+   by page may. */
 
 #ifndef YARDSTICK_H
 #define YARDSTICK_H
@@ -6,7 +7,7 @@
 #include <stddef.h>
 #include <stdint.h>
 
-/* They answer as wankitare_step and wankitare_run do. Nothing that is lent overlaps. */
+/* They answer as the functions of wankitare.h do. Nothing that is lent overlaps. */
 
 /* The plain build: one step and one run for all parts. */
 uint64_t yardstick_step(uint8_t *record, size_t record_len, uint8_t *image, size_t image_len,
@@ -21,5 +22,11 @@ uint64_t per_part_step(uint8_t *record, size_t record_len, uint8_t *image, size_
 uint64_t per_part_run(uint8_t *record, size_t record_len, uint8_t *image, size_t image_len,
                       const uint8_t *script, size_t script_len, uint8_t *accesses, size_t accesses_len,
                       uint64_t *steps, uint64_t *listed);
+
+/* Counts by page as a programmer would: all records are judged, then all counts added up, then the list is counted. */
+uint64_t yardstick_pages(uint64_t *reads, uint64_t *writes, const uint8_t *accesses, size_t accesses_len);
+
+/* The last of these loops alone, which refuses nothing: what is left to gain. */
+uint64_t bare_pages(uint64_t *reads, uint64_t *writes, const uint8_t *accesses, size_t accesses_len);
 
 #endif
