@@ -1,5 +1,7 @@
-//! Nanoseconds per step, step by step and in runs, each core on the same program, in turns within one process; and per
-//! record of an admitted map.
+//! Nanoseconds per step, step by step and in runs, each core on the same program, in turns within one process; per
+//! record of an admitted map; and per record that is counted by page.
+
+mod counting;
 
 use crate::bus::{ACCESS, BANK, MOST_ACCESSES};
 use crate::cores::{self, Noise, Tested};
@@ -157,7 +159,7 @@ impl Line {
     }
 }
 
-/// Prints the table. False where a core and the second program do not agree on the program.
+/// Prints the tables. False where a core and the second program do not agree on the program.
 pub fn bench() -> bool {
     let lines = main_lines();
     if !lines.iter().all(|(name, board)| all_agree(name, board)) {
@@ -168,11 +170,13 @@ pub fn bench() -> bool {
     for _ in 0..ROUNDS {
         lines.iter_mut().for_each(Line::take_turn);
     }
-    print_heading();
+    let names: Vec<&str> = cores::all().iter().map(|core| core.name).collect();
+    print_heading("ns an instruction", &names);
     lines.iter().for_each(Line::print);
     #[cfg(not(yardstick_only))]
     print_admissions();
-    true
+    println!();
+    counting::print()
 }
 
 /// Plays a line of the table and no more, for who counts the host's instructions. False where there is no such line.
@@ -186,9 +190,8 @@ pub fn play(core: Tested, name: &str, steps: u64) -> bool {
     }
 }
 
-fn print_heading() {
-    let names: Vec<&str> = cores::all().iter().map(|core| core.name).collect();
-    print!("| ns an instruction |");
+fn print_heading(what: &str, names: &[&str]) {
+    print!("| {} |", what);
     names.iter().for_each(|name| print!(" {} |", name));
     names[1..]
         .iter()

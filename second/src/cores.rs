@@ -1,5 +1,6 @@
 //! The cores held to account, behind the board's C interface.
 
+use crate::pages::Counts;
 use crate::run::Ran;
 
 type Step = unsafe extern "C" fn(*mut u8, usize, *mut u8, usize, u8, u8, *mut u8, usize) -> u64;
@@ -16,6 +17,8 @@ type Run = unsafe extern "C" fn(
     *mut u64,
     *mut u64,
 ) -> u64;
+
+type Pages = unsafe extern "C" fn(*mut u64, *mut u64, *const u8, usize) -> u64;
 
 macro_rules! entries {
     ($($(#[$attribute:meta])* $step:ident $run:ident,)*) => {
@@ -70,6 +73,27 @@ extern "C" {
         map: *const u8,
         map_len: usize,
     ) -> u64;
+    fn wankitare_pages(
+        reads: *mut u64,
+        writes: *mut u64,
+        accesses: *const u8,
+        accesses_len: usize,
+    ) -> u64;
+}
+
+extern "C" {
+    fn yardstick_pages(
+        reads: *mut u64,
+        writes: *mut u64,
+        accesses: *const u8,
+        accesses_len: usize,
+    ) -> u64;
+    fn bare_pages(
+        reads: *mut u64,
+        writes: *mut u64,
+        accesses: *const u8,
+        accesses_len: usize,
+    ) -> u64;
 }
 
 #[derive(Clone, Copy)]
@@ -105,6 +129,41 @@ pub fn all() -> &'static [Tested] {
 
 pub fn named(name: &str) -> Option<Tested> {
     ALL.iter().copied().find(|core| core.name == name)
+}
+
+/// What counts by page.
+#[derive(Clone, Copy)]
+pub struct Counter {
+    pub name: &'static str,
+    pages: Pages,
+}
+
+const COUNTERS: &[Counter] = &[
+    #[cfg(not(yardstick_only))]
+    Counter {
+        name: "archive",
+        pages: wankitare_pages,
+    },
+    Counter {
+        name: "yardstick",
+        pages: yardstick_pages,
+    },
+    Counter {
+        name: "bare",
+        pages: bare_pages,
+    },
+];
+
+/// The archive first, as with the cores; the bare loop last, which judges nothing and is only worth a comparison of time.
+pub fn counters() -> &'static [Counter] {
+    COUNTERS
+}
+
+impl Tested {
+    /// None for a yardstick that has but the step and the run.
+    pub fn counter(self) -> Option<Counter> {
+        COUNTERS.iter().copied().find(|one| one.name == self.name)
+    }
 }
 
 /// What no run's answer may show: the pointer of its empty slices, and what stood in *steps and *listed.
@@ -207,6 +266,14 @@ impl Tested {
             steps,
             listed,
         }
+    }
+}
+
+impl Counter {
+    pub fn pages(self, reads: &mut Counts, writes: &mut Counts, list: &[u8], empty: usize) -> u64 {
+        let (reads, writes) = (reads.as_mut_ptr(), writes.as_mut_ptr());
+        // SAFETY: as above, and each of the other two pointers is that of 256 counts.
+        unsafe { (self.pages)(reads, writes, at(list, empty), list.len()) }
     }
 }
 

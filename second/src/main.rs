@@ -10,6 +10,7 @@ mod cases;
 mod compare;
 mod core;
 mod cores;
+mod countings;
 mod coverage;
 mod examples;
 mod firmware;
@@ -17,6 +18,7 @@ mod image;
 mod instructions;
 mod json;
 mod opcodes;
+mod pages;
 mod pair;
 mod program;
 mod promise;
@@ -40,24 +42,25 @@ const USAGE: &str = "usage:
   second restart [--seed S]
   second admission --maps N [--seed S]
   second promise --steps N [--seed S] [--core CORE]
+  second pages --lists N [--seed S] [--core CORE]
   second arithmetic [--core CORE]
   second examples [--core CORE]
   second image --start HEX --success HEX [--load HEX] [--most N] [--core CORE] FILE
   second json [--core CORE] FILE...
   second bench [--core CORE --line LINE --steps N]
 
-CORE is archive, yardstick or per-part. Without it, compare, runs, promise, arithmetic, image and json take the archive,
-or the yardstick where the program was built without one, and examples takes every core. Only the archive has restart
-and admission. With a line of its table, bench plays that line and prints nothing.
+CORE is archive, yardstick or per-part. Without it, compare, runs, promise, pages, arithmetic, image and json take the
+archive, or the yardstick where the program was built without one, and examples takes every core. Only the archive has
+restart and admission, and per-part does not count pages. With a line of its table, bench plays that line and prints
+nothing.
 
 image plays a self-checking 6502 image until it stands still, which must be at --success. It is a file of 65,536 bytes,
 or one that goes to --load. json plays the cases of files in the published layout, an instruction each.";
 
 #[derive(Default)]
 struct Options {
-    steps: Option<u64>,
-    runs: Option<u64>,
-    maps: Option<u64>,
+    /// How many of what.
+    count: Option<(String, u64)>,
     seed: Option<u64>,
     core: Option<cores::Tested>,
     line: Option<String>,
@@ -77,27 +80,32 @@ fn main() {
     let options = read_options(rest);
     let core = options.core.unwrap_or(cores::all()[0]);
     let seed = options.seed.unwrap_or_else(seed_from_time);
-    let counts = (options.steps, options.runs, options.maps);
+    let count = options.count.as_ref();
+    let count = count.map(|(of, count)| (of.as_str(), *count));
     if options.files.is_empty() == matches!(command.as_str(), "image" | "json") {
         fail(USAGE);
     }
-    let passed = match (command.as_str(), counts) {
-        ("compare", (Some(steps), None, None)) => compare::compare(core, steps, seed),
-        ("runs", (None, Some(runs), None)) => runs::runs(core, runs, seed),
+    let passed = match (command.as_str(), count) {
+        ("compare", Some(("--steps", steps))) => compare::compare(core, steps, seed),
+        ("runs", Some(("--runs", runs))) => runs::runs(core, runs, seed),
         #[cfg(not(yardstick_only))]
-        ("restart", (None, None, None)) => restarts::restarts(seed),
+        ("restart", None) => restarts::restarts(seed),
         #[cfg(not(yardstick_only))]
-        ("admission", (None, None, Some(maps))) => admissions::admissions(maps, seed),
-        ("promise", (Some(steps), None, None)) => promise::promise(core, steps, seed),
-        ("arithmetic", (None, None, None)) => arithmetic::arithmetic(core),
-        ("examples", (None, None, None)) => match options.core {
+        ("admission", Some(("--maps", maps))) => admissions::admissions(maps, seed),
+        ("promise", Some(("--steps", steps))) => promise::promise(core, steps, seed),
+        ("pages", Some(("--lists", lists))) => match core.counter() {
+            Some(counter) => countings::countings(counter, lists, seed),
+            None => fail("this core does not count by page"),
+        },
+        ("arithmetic", None) => arithmetic::arithmetic(core),
+        ("examples", None) => match options.core {
             Some(core) => examples::examples(&[core]),
             None => examples::examples(cores::all()),
         },
-        ("image", (None, None, None)) => image::image(core, &asked(&options)),
-        ("json", (None, None, None)) => published::published(core, &options.files),
-        ("bench", (None, None, None)) => bench::bench(),
-        ("bench", (Some(steps), None, None)) => match &options.line {
+        ("image", None) => image::image(core, &asked(&options)),
+        ("json", None) => published::published(core, &options.files),
+        ("bench", None) => bench::bench(),
+        ("bench", Some(("--steps", steps))) => match &options.line {
             Some(line) => bench::play(core, line, steps),
             None => fail(USAGE),
         },
@@ -118,9 +126,9 @@ fn read_options(arguments: &[String]) -> Options {
         }
         let value = arguments.next().unwrap_or_else(|| fail(USAGE));
         match name.as_str() {
-            "--steps" => options.steps = Some(number(value)),
-            "--runs" => options.runs = Some(number(value)),
-            "--maps" => options.maps = Some(number(value)),
+            "--steps" | "--runs" | "--maps" | "--lists" if options.count.is_none() => {
+                options.count = Some((name.clone(), number(value)));
+            }
             "--seed" => options.seed = Some(number(value)),
             "--line" => options.line = Some(value.clone()),
             "--core" => match cores::named(value) {

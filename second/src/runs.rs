@@ -1,6 +1,6 @@
 //! Random runs, byte against byte: the second program, a core's run, and that core's own steps one after the other.
 
-mod draw;
+pub mod draw;
 mod seen;
 
 use crate::bus::ACCESS;
