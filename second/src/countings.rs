@@ -6,13 +6,15 @@ mod edges;
 mod lent;
 mod seen;
 
+pub use draw::records;
+
 use crate::bus::ACCESS;
 use crate::cases::{GUARD, MOST_SHIFT};
 use crate::compare::{hex, tell_first};
 use crate::cores::Counter;
 use crate::pages::{pages, total};
 use crate::random::Random;
-use draw::{cut, ends, malform, records, Draw, Fault};
+use draw::{cut, ends, malform, Draw, Fault};
 use lent::{Lent, Places, Tables};
 use seen::{Seen, Start};
 

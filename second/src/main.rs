@@ -18,6 +18,7 @@ mod image;
 mod instructions;
 mod json;
 mod opcodes;
+mod page_report;
 mod pages;
 mod pair;
 mod program;
@@ -43,6 +44,8 @@ const USAGE: &str = "usage:
   second admission --maps N [--seed S]
   second promise --steps N [--seed S] [--core CORE]
   second pages --lists N [--seed S] [--core CORE]
+  second page-report FILE...
+  second list --records N [--seed S] FILE
   second arithmetic [--core CORE]
   second examples [--core CORE]
   second image --start HEX --success HEX [--load HEX] [--most N] [--core CORE] FILE
@@ -55,7 +58,8 @@ restart and admission, and per-part does not count pages. With a line of its tab
 nothing.
 
 image plays a self-checking 6502 image until it stands still, which must be at --success. It is a file of 65,536 bytes,
-or one that goes to --load. json plays the cases of files in the published layout, an instruction each.";
+or one that goes to --load. json plays the cases of files in the published layout, an instruction each. page-report
+prints what the program page_report must print of these files, and list writes a list of random records.";
 
 #[derive(Default)]
 struct Options {
@@ -82,7 +86,8 @@ fn main() {
     let seed = options.seed.unwrap_or_else(seed_from_time);
     let count = options.count.as_ref();
     let count = count.map(|(of, count)| (of.as_str(), *count));
-    if options.files.is_empty() == matches!(command.as_str(), "image" | "json") {
+    let takes_files = matches!(command.as_str(), "image" | "json" | "page-report" | "list");
+    if options.files.is_empty() == takes_files {
         fail(USAGE);
     }
     let passed = match (command.as_str(), count) {
@@ -96,6 +101,11 @@ fn main() {
         ("pages", Some(("--lists", lists))) => match core.counter() {
             Some(counter) => countings::countings(counter, lists, seed),
             None => fail("this core does not count by page"),
+        },
+        ("page-report", None) => page_report::page_report(&options.files),
+        ("list", Some(("--records", records))) => match &options.files[..] {
+            [file] => page_report::write_list(file, records, seed),
+            _ => fail(USAGE),
         },
         ("arithmetic", None) => arithmetic::arithmetic(core),
         ("examples", None) => match options.core {
@@ -126,7 +136,9 @@ fn read_options(arguments: &[String]) -> Options {
         }
         let value = arguments.next().unwrap_or_else(|| fail(USAGE));
         match name.as_str() {
-            "--steps" | "--runs" | "--maps" | "--lists" if options.count.is_none() => {
+            "--steps" | "--runs" | "--maps" | "--lists" | "--records"
+                if options.count.is_none() =>
+            {
                 options.count = Some((name.clone(), number(value)));
             }
             "--seed" => options.seed = Some(number(value)),
