@@ -1,6 +1,6 @@
-/* Runs examples.txt, given as standard input, as steps and as runs of one step, then some runs, restart files, appends
-   and admissions, on the archive that this is linked with, through the board's header. It shows that an x86-64 archive
-   links and answers wherever x86-64 programs run, and needs no headers of a C library. */
+/* Runs examples.txt, given as standard input, as steps and as runs of one step, then some runs, restart files, appends,
+   admissions and counts by page, on the archive that this is linked with, through the board's header. It shows that an
+   x86-64 archive links and answers wherever x86-64 programs run, and needs no headers of a C library. */
 
 #include "wankitare.h"
 
@@ -245,6 +245,39 @@ static void check_admit(void)
     check("admit, malformed record", word == (4 << 16 | WANKITARE_MAP_RECORD));
 }
 
+/* The list of LDA 10 at 8000 and of STA 0210, and then what is refused. */
+static void check_pages(void)
+{
+    static uint8_t lists[][WANKITARE_ACCESS_BYTES] = {
+        {0x00, 0x80, 0, 0xA5}, {0x01, 0x80, 0, 0x10}, {0x10, 0x00, 0, 0x42},
+        {0x02, 0x80, 0, 0x8D}, {0x03, 0x80, 0, 0x10}, {0x04, 0x80, 0, 0x02}, {0x10, 0x02, 0, 0x42, 1}};
+    static uint64_t reads[WANKITARE_PAGES], writes[WANKITARE_PAGES];
+    static uint64_t right_reads[WANKITARE_PAGES], right_writes[WANKITARE_PAGES];
+    const size_t first = 3 * WANKITARE_ACCESS_BYTES, rest = sizeof lists - first;
+
+    right_reads[0x00] = 1;
+    right_reads[0x80] = 5;
+    right_writes[0x02] = 1;
+    check("pages, first list", wankitare_pages(reads, writes, lists[0], first) == 0 && reads[0x80] == 2 &&
+                                   reads[0x00] == 1 && writes[0x02] == 0);
+    check("pages, second list", wankitare_pages(reads, writes, lists[3], rest) == 0);
+    check("pages, empty list", wankitare_pages(reads, writes, NULL, 0) == 0);
+    check("pages, counts", memcmp(reads, right_reads, sizeof reads) == 0 &&
+                               memcmp(writes, right_writes, sizeof writes) == 0);
+    lists[0][7] = 1;
+    check("pages, list cut", wankitare_pages(reads, writes, lists[0], sizeof lists - 1) == WANKITARE_LIST_LENGTH);
+    check("pages, bad record", wankitare_pages(reads, writes, lists[0], sizeof lists) == WANKITARE_LIST_RECORD);
+    lists[0][7] = 0;
+    writes[0xFF] = UINT64_MAX - 7 - 6; /* with the seven before, room for six */
+    right_writes[0xFF] = writes[0xFF];
+    check("pages, total", wankitare_pages(reads, writes, lists[0], sizeof lists) == WANKITARE_TOTAL);
+    check("pages, refused and unchanged", memcmp(reads, right_reads, sizeof reads) == 0 &&
+                                              memcmp(writes, right_writes, sizeof writes) == 0);
+    word = wankitare_pages(reads, writes, lists[1], sizeof lists - WANKITARE_ACCESS_BYTES);
+    check("pages, the last that fit", word == 0 && reads[0x80] == 9 && reads[0x00] == 2 && writes[0x02] == 2);
+    check("pages, no room", wankitare_pages(reads, writes, lists[0], WANKITARE_ACCESS_BYTES) == WANKITARE_TOTAL);
+}
+
 int main(void)
 {
     while (read_line()) {
@@ -282,6 +315,7 @@ int main(void)
     check_restart();
     check_append();
     check_admit();
+    check_pages();
     printf("%u examples and %u cases through the header: %u failed\n", run, checked - run, failed);
     return run == 0 || failed != 0;
 }

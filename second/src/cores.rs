@@ -154,7 +154,7 @@ const COUNTERS: &[Counter] = &[
     },
 ];
 
-/// The archive first, as with the cores; the bare loop last, which judges nothing and is only worth a comparison of time.
+/// The archive first, as with the cores. The bare loop judges nothing: it is there for time to be held against.
 pub fn counters() -> &'static [Counter] {
     COUNTERS
 }

@@ -1,5 +1,5 @@
-//! Access lists counted by page, on the second program and on a core: every length, every byte, every edge of the total,
-//! and random lists in random pieces.
+//! Access lists counted by page, on the second program and on a core: every length, every byte, every edge of the
+//! total, and random lists in random pieces.
 
 mod draw;
 mod edges;

@@ -110,8 +110,8 @@ impl Comparison {
         true
     }
 
-    /// The counts leave room for a list, and for one record less: all in one count, which the list takes to 2^64 - 1, and
-    /// in several.
+    /// The counts leave room for a list, and for one record less: all in one count, which the list takes to 2^64 - 1,
+    /// and in several.
     fn totals(&mut self) -> bool {
         for count in RECORDS_AT_THE_EDGE {
             let most = u128::from(u64::MAX) - count as u128;
