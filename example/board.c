@@ -5,7 +5,7 @@
    status is 0 if all came as expected.
 
    Each call has a function of its own: wankitare_admit is in admit, wankitare_run in rehearse, wankitare_step in step,
-   wankitare_append_at in save, wankitare_restart in restart. */
+   wankitare_pages in count_pages, wankitare_append_at in save, wankitare_restart in restart. */
 
 #define _POSIX_C_SOURCE 200809L
 
@@ -56,11 +56,19 @@ static int asking;              /* IRQ is asserted */
 static unsigned shown;          /* the load that was shown last */
 static int restart_file, ram_file;
 
+/* A logger hangs on the bus, with power of its own: what a dip makes the blade do twice, it sees twice. It keeps the
+   latest accesses in a list, all of them in a file, and how many reads and writes each page had. */
+static uint8_t list[1000 * WANKITARE_STEP_ROOM];
+static size_t list_length;
+static int list_file;
+static uint64_t reads[WANKITARE_PAGES], writes[WANKITARE_PAGES];
+
 /* Of the trial, not of a board: how many bytes can be written until the power fails; what the last save that was
-   completed has saved, and how many were. */
+   completed has saved, and how many were; how many accesses the steps have made. */
 static size_t power = SIZE_MAX;
 static struct blade saved;
 static int saves, quiet, failed;
+static uint64_t made;
 
 /* ---- What is said ---- */
 
@@ -80,6 +88,9 @@ static const char *const sentences[] = {
     [WANKITARE_STORE_ADDRESS] = "the instruction could write the stack page",
     [WANKITARE_KIND_OR_HEIGHT] = "TXS, CLI, RTS, RTI or PLA in a kind of code, or at a height, where it is not allowed",
     [WANKITARE_SUCCESSOR] = "what follows the instruction has no record, or one that does not fit",
+    [WANKITARE_LIST_LENGTH] = "the list of accesses ends with a part of one",
+    [WANKITARE_LIST_RECORD] = "the list has an access that no step makes",
+    [WANKITARE_TOTAL] = "all counts together would pass 64 bits",
 };
 
 static const char *sentence(uint64_t word)
@@ -100,7 +111,7 @@ static void stop_if_refused(uint64_t word, const char *what)
     fprintf(stderr, "board: %s is refused by %u: %s\n", what, refusal, sentence(word));
     if (refusal == WANKITARE_UNDEFINED_OPCODE)
         fprintf(stderr, "board: it is %02X at %04X\n", wankitare_opcode(word), wankitare_pc(word));
-    if (refusal == WANKITARE_MAP_RECORD || refusal >= WANKITARE_PLACE_OR_OPCODE)
+    if (refusal == WANKITARE_MAP_RECORD || (refusal >= WANKITARE_PLACE_OR_OPCODE && refusal <= WANKITARE_SUCCESSOR))
         fprintf(stderr, "board: see record %u of the map\n", wankitare_index(word));
     exit(1);
 }
@@ -186,6 +197,35 @@ static int save(void)
     saved = blade;
     saves++;
     return 1;
+}
+
+/* ---- What the logger keeps ---- */
+
+/* Counts the list by page, and writes it behind those before it. That is done for many steps at a time, since a call
+   goes over all counts once, however short the list. */
+static void count_pages(void)
+{
+    stop_if_refused(wankitare_pages(reads, writes, list, list_length), "a list");
+    must(write(list_file, list, list_length) == (ssize_t)list_length, "accesses");
+    list_length = 0;
+}
+
+/* Takes the list of a step. */
+static void log_accesses(const uint8_t *accesses, size_t length)
+{
+    if (length > sizeof list - list_length)
+        count_pages();
+    memcpy(list + list_length, accesses, length);
+    list_length += length;
+}
+
+static uint64_t total(const uint64_t *counts)
+{
+    uint64_t all = 0;
+
+    for (unsigned page = 0; page < WANKITARE_PAGES; page++)
+        all += counts[page];
+    return all;
 }
 
 /* ---- What the firmware sees of the board, and the board of the firmware ---- */
@@ -279,6 +319,8 @@ static int step(uint8_t with_lines)
                                    accesses, sizeof accesses);
 
     stop_if_refused(word, "a step");
+    made += wankitare_accesses(word);
+    log_accesses(accesses, wankitare_accesses(word) * ACCESS);
     for (unsigned i = 0; i < wankitare_accesses(word); i++)
         look(accesses + i * ACCESS, before + i + 1);
     return relays == relays_before || save();
@@ -400,11 +442,14 @@ static size_t draw_dip(uint32_t *seed)
     return whole + (draw(seed, 4) ? RAM + draw(seed, RECORD) : draw(seed, RAM));
 }
 
-/* Works to the end through so many dips, from empty files on. */
+/* Works to the end through so many dips, from empty files and counts on. */
 static void work_through(int dips, uint32_t seed)
 {
-    must(ftruncate(restart_file, 0) == 0 && ftruncate(ram_file, 0) == 0, "files");
+    must(ftruncate(restart_file, 0) == 0 && ftruncate(ram_file, 0) == 0 && ftruncate(list_file, 0) == 0, "files");
+    memset(reads, 0, sizeof reads);
+    memset(writes, 0, sizeof writes);
     saves = 0;
+    made = 0;
     for (; dips > 0; dips--) {
         power = draw_dip(&seed);
         expect(!work(), "the power fails");
@@ -413,6 +458,9 @@ static void work_through(int dips, uint32_t seed)
     expect(work(), "the power stays");
     expect(relays == expected(END)->outlets && sum() == expected(END)->load, "in the end these outlets are on");
     expect(blade.image[STAGE] == COUNT && blade.image[SERVED] == REQUESTS, "the firmware has counted right");
+    count_pages();
+    expect(total(reads) + total(writes) == made, "the counts of all pages together are the accesses");
+    expect(lseek(list_file, 0, SEEK_END) == (off_t)(made * ACCESS), "the logger's file has the accesses");
 }
 
 int main(int count, char **words)
@@ -431,7 +479,8 @@ int main(int count, char **words)
     must(map_length >= MAP_RECORD, "firmware.map");
     restart_file = open("restart", O_RDWR | O_CREAT, 0666);
     ram_file = open("ram", O_RDWR | O_CREAT, 0666);
-    must(restart_file >= 0 && ram_file >= 0, words[1]);
+    list_file = open("accesses", O_WRONLY | O_CREAT | O_APPEND, 0666);
+    must(restart_file >= 0 && ram_file >= 0 && list_file >= 0, words[1]);
 
     tell("seed %u", (unsigned)seed);
     power_up();
@@ -441,9 +490,11 @@ int main(int count, char **words)
     quiet = 1;
     work_through(0, seed);
     undisturbed = blade;
+    expect(made == cycles(), "a blade whose power never fails makes one access in each cycle");
     quiet = 0;
     work_through(DIPS, seed);
     expect(memcmp(&blade, &undisturbed, sizeof blade) == 0, "a blade whose power never fails ends with the same bytes");
+    tell("-- the bus saw %lu reads and %lu writes", (unsigned long)total(reads), (unsigned long)total(writes));
     if (!failed)
         tell("-- all as expected; record and image end as if the power had never failed");
     return failed;
