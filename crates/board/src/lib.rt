@@ -1,6 +1,7 @@
 // The exported functions: numbers and byte slices in, one word out.
 
 use rules::AppendAnswer;
+use rules::CountAnswer;
 use rules::Numbers;
 use rules::RestartAnswer;
 use rules::Verdict;
@@ -10,6 +11,7 @@ ghost use Rattle.rules.specs.Bus.{images};
 ghost use Rattle.rules.specs.Step.{step};
 ghost use Rattle.rules.specs.Run.{runOf};
 ghost use Rattle.rules.specs.Restart.{restart, appendAt};
+ghost use Rattle.rules.specs.Pages.{pageWords, fed};
 ghost use Rattle.admission_rules.specs.Admission.{admit};
 ghost use Rattle.admission_rules.specs.Safety.{Safe, PlaysOut};
 ghost use Rattle.step.specs.Parts.{left};
@@ -95,5 +97,19 @@ pub extern "C" fn wankitare_admit(image: &[u8], c: u8, map: &[u8]) -> u64
     match admission::admit(image, c, map) {
         Verdict::Accepted => 0,
         Verdict::Barred(e) => words::refusal_word(e),
+    }
+}
+
+#[no_mangle]
+pub extern "C" fn wankitare_pages(
+    reads: &mut [u64; 256],
+    writes: &mut [u64; 256],
+    accesses: &[u8],
+) -> u64
+    ensures { λ r. ⌜ record { word = r; reads = now (reads .exit); writes = now (writes .exit) } ≡ pageWords (fed (now (reads .entry)) (now (writes .entry)) (now (accesses .entry))) ⌝ }
+{
+    match pages::feed(reads, writes, accesses) {
+        CountAnswer::Counted => 0,
+        CountAnswer::Uncounted(e) => words::refusal_word(e),
     }
 }

@@ -12,14 +12,14 @@ use lib.Seq.{drop-cons, drop-length}
 use Rattle.rules.specs.declared.Flags.{Flags}
 use Rattle.rules.specs.declared.State.{State}
 use Rattle.rules.specs.declared.Bus.{Bus}
-use Rattle.rules.specs.Basics.{if_then_else_, bit, at, address}
+use Rattle.rules.specs.Basics.{if_then_else_, all, bit, at, address}
 use Rattle.rules.specs.Cycles.{Bank, execution, indirect, Access}
 use Rattle.rules.specs.Flags.{byteOf, flagsOf}
 use Rattle.rules.specs.Interrupts.{Event, res, nmi, irq, execute, nmiOf, cyclesOf}
 use Rattle.rules.specs.Bus.{is6502, is6508, is6509, Memory, World, world, narrow, first, second, byte, cellOf, imageAt, selected, kept, stored, isProtected, resetBus, board}
 use Rattle.rules.specs.Record.{long, stateOf, recordOf, wellFormed, partFits, flagsFit, registerFits, levelFits, pagesFit}
 use Rattle.rules.specs.Step.{linesFit, busAt, ranOf}
-use Rattle.laws.proofs.Tests.{and-left, and-right, six, all, all-at, if-case}
+use Rattle.laws.proofs.Tests.{and-left, and-right, six, all-at, if-case}
 use Rattle.laws.proofs.Cycles.{run-keeps, Each, run-lists}
 
 -- what a well-formed record says

@@ -7,7 +7,7 @@ use mathlib.Core.Bool.{Bool, true, false, _&&_, false≢true}
 use mathlib.Core.List.{List, [], _∷_, _++_}
 use lib.Arith.{lt-of-le-ne}
 use Rattle.rules.specs.declared.Refusal.{Refusal}
-use Rattle.rules.specs.Basics.{if_then_else_}
+use Rattle.rules.specs.Basics.{if_then_else_, all}
 use Rattle.rules.specs.Answers.{Test, tested}
 
 pub and-left : (a b : Bool) → (a && b) ≡ true → a ≡ true
@@ -25,11 +25,6 @@ and-true false = refl
 pub six : (a b c d e f : Bool) → (a && b && c && d && e && f) ≡ true →
     (a ≡ true) × (b ≡ true) × (c ≡ true) × (d ≡ true) × (e ≡ true) × (f ≡ true)
 six a b c d e f h = search (and-left, and-right) depth 8
-
--- the test passes at each number below n
-abbrev pub all : ℕ → (ℕ → Bool) → Bool
-all zero f = true
-all (suc n) f = f n && all n f
 
 pub all-at : (n : ℕ) (f : ℕ → Bool) → all n f ≡ true → (k : ℕ) → k < n → f k ≡ true
 all-at zero f t k h = absurd (not-suc-le-zero h)

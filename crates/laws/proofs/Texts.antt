@@ -13,7 +13,7 @@ use Rattle.rules.specs.Bus.{Chart, images, charts}
 use Rattle.laws.proofs.Images.{Holds, step-same}
 use Rattle.rules.proofs.Opened.{opened}
 use Rattle.rules.proofs.Examples.{same, failing, zeros, _from_holds_, state, registers}
-use Rattle.rules.specs.Text.{each, accessLine, numberLine, recordLine, textOf, printed}
+use Rattle.rules.specs.Text.{digits, each, accessLine, numberLine, recordLine, textOf, printed}
 
 abbrev said : String → List ℕ
 said none = []
@@ -68,7 +68,7 @@ texts =
     ∷ []
 
 examples : failing 1 texts ≡ []
-unfolding opened texts each accessLine numberLine recordLine textOf
+unfolding opened texts each digits accessLine numberLine recordLine textOf
 examples = refl
 
 -- the text of a chart is the text of any image that holds the same bytes
@@ -91,5 +91,5 @@ printed-parts r m lines pins e =
 
 -- the document's example, of an input's bytes
 pub document : (m : List ℕ) → Holds m loads → printed (paper ++ 0 ∷ 0 ∷ m) ≡ said papers
-unfolding opened each accessLine numberLine recordLine textOf
+unfolding opened each digits accessLine numberLine recordLine textOf
 document m h = printed-parts paper m 0 0 refl ∙ text-same paper 0 0 m loads (length m + 18) h ∙ (rw (h .size))

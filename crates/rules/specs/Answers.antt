@@ -3,7 +3,7 @@ use Prim.Native.Nat.{ℕ, _+_, _*_}
 use mathlib.Core.Bool.{Bool}
 use mathlib.Core.List.{List, [], _∷_}
 use Rattle.rules.specs.declared.Refusal.{Refusal}
-use Rattle.rules.specs.declared.Refusal.the-variants.{RecordLength, Malformed, ImageLength, Lines, Room, Undefined, ScriptLength, FileLength, Admission, MapRecord, Vectors, Place, StoreAddress, Stack, Successor}
+use Rattle.rules.specs.declared.Refusal.the-variants.{RecordLength, Malformed, ImageLength, Lines, Room, Undefined, ScriptLength, FileLength, Admission, MapRecord, Vectors, Place, StoreAddress, Stack, Successor, ListLength, ListRecord, Total}
 use Rattle.rules.specs.declared.Numbers.{Numbers}
 use Rattle.rules.specs.declared.StepAnswer.{StepAnswer}
 use Rattle.rules.specs.declared.StepAnswer.the-variants.{Stepped, Refused}
@@ -15,6 +15,8 @@ use Rattle.rules.specs.declared.AppendAnswer.{AppendAnswer}
 use Rattle.rules.specs.declared.AppendAnswer.the-variants.{At, Full}
 use Rattle.rules.specs.declared.Verdict.{Verdict}
 use Rattle.rules.specs.declared.Verdict.the-variants.{Accepted, Barred}
+use Rattle.rules.specs.declared.CountAnswer.{CountAnswer}
+use Rattle.rules.specs.declared.CountAnswer.the-variants.{Counted, Uncounted}
 use Rattle.rules.specs.Basics.{if_then_else_}
 
 -- A test, and the refusal where it fails.
@@ -55,6 +57,9 @@ numbersOf (Place i) = indexed 13 i
 numbersOf (StoreAddress i) = indexed 14 i
 numbersOf (Stack i) = indexed 15 i
 numbersOf (Successor i) = indexed 16 i
+numbersOf ListLength = plain 20
+numbersOf ListRecord = plain 21
+numbersOf Total = plain 22
 
 -- The board's 64-bit word: bits 0 to 7 the number, 8 to 15 the small detail, from 16 on the large one.
 abbrev pub packed : Numbers → ℕ
@@ -88,3 +93,7 @@ appendWord (Full e) = refusalWord e
 abbrev pub verdictWord : Verdict → ℕ
 verdictWord Accepted = 0
 verdictWord (Barred e) = refusalWord e
+
+abbrev pub countWord : CountAnswer → ℕ
+countWord Counted = 0
+countWord (Uncounted e) = refusalWord e

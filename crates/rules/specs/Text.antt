@@ -22,9 +22,14 @@ digit n = if ltb n 10 then code "0" + n else code "A" + (n - 10)
 abbrev pub hex : ℕ → List ℕ
 hex v = digit (v / 16) ∷ digit (v % 16) ∷ []
 
--- a number below 100 in decimal
+-- a number in decimal, of at most k digits
+unfoldable pub digits : ℕ → ℕ → List ℕ
+digits zero n = []
+digits (suc k) n = if ltb n 10 then digit n ∷ [] else digits k (n / 10) ++ digit (n % 10) ∷ []
+
+-- a number of 64 bits
 abbrev pub decimal : ℕ → List ℕ
-decimal n = if ltb n 10 then digit n ∷ [] else digit (n / 10) ∷ digit (n % 10) ∷ []
+decimal n = digits 20 n
 
 -- f 0, f 1 and so on, n of them
 unfoldable pub each : ℕ → (ℕ → List ℕ) → List ℕ
@@ -44,9 +49,13 @@ accessLine kind bank high low value =
 abbrev pub lineOf : List ℕ → ℕ → List ℕ
 lineOf l k = let p = 8 * k in accessLine (at l (p + 4)) (at l (p + 2)) (at l (p + 1)) (at l p) (at l (p + 3))
 
+-- a space and a number
+abbrev pub spaced : ℕ → List ℕ
+spaced n = code " " ∷ decimal n
+
 -- a letter and a number
 unfoldable pub numberLine : ℕ → ℕ → List ℕ
-numberLine letter n = letter ∷ code " " ∷ decimal n ++ code "\n" ∷ []
+numberLine letter n = letter ∷ spaced n ++ code "\n" ∷ []
 
 -- "then N and the count in decimal"
 abbrev pub countLine : ℕ → List ℕ

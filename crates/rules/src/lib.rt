@@ -1,4 +1,4 @@
-// The types of document 01: the processor, its bus, its instructions and the answers. What they mean stands in specs/.
+// The types of documents 01 and 02: the processor, its bus, its instructions and the answers. What they mean stands in specs/.
 
 // The six flags of P.
 pub struct Flags {
@@ -152,7 +152,7 @@ pub enum Instruction {
     Cli,
 }
 
-// Why a call is refused, in the order of document 01's numbers, with the details.
+// Why a call is refused, in the order of the documents' numbers, with the details.
 pub enum Refusal {
     RecordLength,
     Malformed,
@@ -169,6 +169,9 @@ pub enum Refusal {
     StoreAddress(u16),
     Stack(u16),
     Successor(u16),
+    ListLength,
+    ListRecord,
+    Total,
 }
 
 // What the board is told of an answer: the number of document 01, and perhaps a small and a large detail.
@@ -213,4 +216,17 @@ pub enum AppendAnswer {
 pub enum Verdict {
     Accepted,
     Barred(Refusal),
+}
+
+// Whether a list of accesses was counted.
+pub enum CountAnswer {
+    Counted,
+    Uncounted(Refusal),
+}
+
+// The reads and the writes of each page, and whether the list that was fed last is among them.
+pub struct Counting {
+    pub answer: CountAnswer,
+    pub reads: [u64; 256],
+    pub writes: [u64; 256],
 }

@@ -1,31 +1,19 @@
--- Texts put one behind the other.
-use Prim.Native.Nat.{ℕ, zero, suc, _+_, _*_, _≤_, _<_}
+-- The lengths of lines, and texts put one behind the other.
+use Prim.Native.Nat.{ℕ, zero, suc, _+_, _*_, _≤_}
 use native.Mathlib.Omega.{arith}
 use Prim.Native.Char.{code}
 use mathlib.Core.Path.{_≡_, refl, sym, ap, _∙_}
 use mathlib.Core.List.{List, [], _∷_, _++_}
 use lib.ListN.{length, take, set, length-append}
-use lib.Seq.{sets, take-suc, length-take-le}
+use lib.Seq.{sets, take-suc}
 use Rattle.rules.specs.Basics.{at}
 use Rattle.laws.proofs.Lists.{sets-append}
 use Rattle.rules.specs.Text.{hex, each, accessLine, lineOf, bytesText, recordLine}
 
--- one element more of a piece
-pub sets-more : (t l : List ℕ) (p k : ℕ) → k < length l → set (sets t p (take k l)) (p + k) (at l k) ≡ sets t p (take (suc k) l)
-sets-more t l p k h =
-    let e = length-take-le k l (omega arith) in
-    rw (take-suc l k 0 h, sets-append (take k l) (at l k ∷ []) t p, e)
-
-module _ (f : ℕ → List ℕ) (w : ℕ) (wide : (k : ℕ) → length (f k) ≡ w) where
-  pub each-length : (n : ℕ) → length (each n f) ≡ n * w
-  unfolding each
-  each-length zero = omega arith
-  each-length (suc n) = rw (length-append (each n f) (f n), each-length n, wide n) (omega arith)
-
-  -- one more
-  pub each-more : (n p q : ℕ) (t : List ℕ) → q ≡ p + n * w → sets (sets t p (each n f)) q (f n) ≡ sets t p (each (suc n) f)
-  unfolding each
-  each-more n p q t e = rw (e, ← each-length n) (sym (sets-append (each n f) (f n) t p))
+pub each-length : (f : ℕ → List ℕ) (w : ℕ) → ((k : ℕ) → length (f k) ≡ w) → (n : ℕ) → length (each n f) ≡ n * w
+unfolding each
+each-length f w wide zero = omega arith
+each-length f w wide (suc n) = rw (length-append (each n f) (f n), each-length f w wide n, wide n) (omega arith)
 
 pub line-length : (l : List ℕ) (k : ℕ) → length (lineOf l k) ≡ 12
 unfolding accessLine

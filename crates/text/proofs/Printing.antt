@@ -18,7 +18,8 @@ use Rattle.laws.proofs.Steps.{lawful}
 use Rattle.checks.specs.Checks.{Fits}
 use Rattle.step.specs.Parts.{left}
 use Rattle.rules.specs.Text.{textOf, refusalLine, stepText, printed}
-use Rattle.text.specs.Print.{Shows, printout, used, printing}
+use Rattle.characters.specs.Shown.{Shows}
+use Rattle.text.specs.Print.{printout, used, printing}
 
 module _ (i t t′ : List ℕ) (n : ℕ) where
   pub print-short : length i < 16 → Shows (refusalLine RecordLength) n t t′ → printout n i t′ ≡ printing i t

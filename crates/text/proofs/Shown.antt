@@ -12,31 +12,15 @@ use lib.Seq.{sets, sets-eq}
 use Rattle.rules.specs.declared.StepAnswer.the-variants.{Stepped}
 use Rattle.rules.specs.Basics.{if_then_else_}
 use Rattle.rules.specs.Step.{front}
-use Rattle.rules.specs.Text.{digit, each, lineOf, numberLine, countLine, recordLine, stepText}
-use Rattle.text.specs.Print.{Shows}
+use Rattle.rules.specs.Text.{digits, each, lineOf, numberLine, countLine, recordLine, stepText}
+use Rattle.characters.specs.Shown.{Shows}
+use Rattle.characters.proofs.Laws.{sets-front}
 use Rattle.laws.proofs.Lists.{sets-append}
 use Rattle.text.proofs.Laws.{each-length, line-length, record-length}
 
--- "These fill the buffer's front; later bytes stay."
-sets-front : (l t : List ℕ) → length l ≤ length t → sets t 0 l ≡ front l t
-sets-front l t h = let z : 0 + length l ≡ length l = omega arith in sets-eq l t 0 (omega arith) ∙ (rw z)
-
-number-most : (letter n : ℕ) → length (numberLine letter n) ≤ 5
-unfolding numberLine
-number-most letter n = go (ltb n 10)
-  where
-    go : (b : Bool) → length (letter ∷ code " " ∷ (if b then digit n ∷ [] else digit (n / 10) ∷ digit (n % 10) ∷ []) ++ code "\n" ∷ []) ≤ 5
-    go true = omega arith
-    go false = omega arith
-
-pub number-shown : (letter n r : ℕ) (t t′ : List ℕ) → 5 ≤ length t → r ≡ 0 + length (numberLine letter n) → t′ ≡ sets t 0 (numberLine letter n) →
-    Shows (numberLine letter n) r t t′
-number-shown letter n r t t′ room e h =
-    record { count = omega arith; text = h ∙ sets-front (numberLine letter n) t (omega (arith, number-most letter n)) }
-
 -- the count of a step is one digit
 pub count-length : (n : ℕ) → n ≤ 7 → length (countLine n) ≡ 4
-unfolding numberLine
+unfolding numberLine digits
 count-length n h = rw (lt-ltb n 10 (omega arith))
 
 -- the lines of a step's accesses, its count and its record

@@ -9,11 +9,6 @@ use Rattle.rules.specs.Answers.{tested}
 use Rattle.rules.specs.Step.{front}
 use Rattle.rules.specs.Text.{inputTests, stepOf, printed}
 
--- a text of n bytes at the front of a buffer
-pub record Shows (l : List ℕ) (n : ℕ) (t t′ : List ℕ) : Type 0 where
-  pub count : n ≡ length l
-  pub text : t′ ≡ front l t
-
 pub record Printout : Type 0 where
   pub count : ℕ
   pub input : List ℕ

@@ -6,21 +6,14 @@ ghost use Prim.Native.Nat.{ℕ, _+_, _*_, _≤_, _<_};
 ghost use mathlib.Core.Path.{_≡_};
 ghost use lib.ListN.{length, take};
 ghost use lib.Seq.{sets};
-ghost use Rattle.rules.specs.Text.{digit, hex, letter, each, accessLine, lineOf, numberLine, bytesText, recordLine, refusalLine, stepText};
-ghost use Rattle.text.specs.Print.{Shows, printout, printing};
-
-// 0 to 9, A to F.
-fn digit(n: u8) -> u8
-    requires { ⌜ n < 100 ⌝ }
-    ensures { λ r. ⌜ r ≡ digit n ⌝ }
-{
-    if n < 10 { b'0' + n } else { b'A' + (n - 10) }
-}
+ghost use Rattle.rules.specs.Text.{hex, letter, each, accessLine, lineOf, bytesText, recordLine, stepText};
+ghost use Rattle.characters.specs.Shown.{Shows};
+ghost use Rattle.text.specs.Print.{printout, printing};
 
 fn hex(v: u8) -> [u8; 2]
     ensures { λ r. ⌜ r ≡ hex v ⌝ }
 {
-    [digit(v / 16), digit(v % 16)]
+    [characters::digit(v / 16), characters::digit(v % 16)]
 }
 
 fn letter(kind: u8) -> u8
@@ -36,46 +29,17 @@ fn access_line(kind: u8, bank: u8, high: u8, low: u8, value: u8) -> [u8; 12]
     [
         letter(kind),
         b' ',
-        digit(bank % 16),
+        characters::digit(bank % 16),
         b' ',
-        digit(high / 16),
-        digit(high % 16),
-        digit(low / 16),
-        digit(low % 16),
+        characters::digit(high / 16),
+        characters::digit(high % 16),
+        characters::digit(low / 16),
+        characters::digit(low % 16),
         b' ',
-        digit(value / 16),
-        digit(value % 16),
+        characters::digit(value / 16),
+        characters::digit(value % 16),
         b'\n',
     ]
-}
-
-// Puts a piece of text at a place.
-fn put(text: &mut [u8], at: usize, piece: &[u8])
-    requires { ⌜ at + length (now piece) ≤ length (now text) ⌝ }
-    ensures { λ r. ⌜ now (text .exit) ≡ sets (now (text .entry)) at (now (piece .entry)) ⌝ }
-{
-    let mut k = 0;
-    while k < piece.len() {
-        text[at + k] = piece[k];
-        k += 1;
-    }
-}
-
-// A letter and a number in decimal; answers where the line ends.
-fn put_number(text: &mut [u8], at: usize, letter: u8, n: u8) -> usize
-    requires { ⌜ at + 5 ≤ length (now text) ⌝ }
-    ensures { λ r. ⌜ (r ≡ at + length (numberLine letter n)) × (now (text .exit) ≡ sets (now (text .entry)) at (numberLine letter n)) ⌝ }
-{
-    if n < 10 {
-        put(text, at, &[letter, b' ', digit(n), b'\n']);
-        return at + 4;
-    }
-    put(
-        text,
-        at,
-        &[letter, b' ', digit(n / 10), digit(n % 10), b'\n'],
-    );
-    at + 5
 }
 
 // The record, which stands at the input's front.
@@ -118,7 +82,7 @@ fn put_accesses(text: &mut [u8], list: &[u8], n: usize)
 {
     let mut k = 0;
     while k < n {
-        put(text, 12 * k, &line_of(list, k));
+        characters::put(text, 12 * k, &line_of(list, k));
         k += 1;
     }
 }
@@ -129,7 +93,7 @@ fn put_bytes(text: &mut [u8], at: usize, state: &[u8])
 {
     let mut k = 0;
     while k < 16 {
-        put(text, at + 2 * k, &hex(state[k]));
+        characters::put(text, at + 2 * k, &hex(state[k]));
         k += 1;
     }
 }
@@ -139,17 +103,9 @@ fn put_record(text: &mut [u8], at: usize, state: &[u8])
     requires { ⌜ (at + 35 ≤ length (now text)) × (length (now state) ≡ 16) ⌝ }
     ensures { λ r. ⌜ now (text .exit) ≡ sets (now (text .entry)) at (recordLine (now (state .entry))) ⌝ }
 {
-    put(text, at, b"S ");
+    characters::put(text, at, b"S ");
     put_bytes(text, at + 2, state);
-    put(text, at + 34, b"\n");
-}
-
-// "A refusal prints only E and its number"
-fn put_refusal(text: &mut [u8], e: Refusal) -> usize
-    requires { ⌜ 5 ≤ length (now text) ⌝ }
-    ensures { λ r. ⌜ Shows (refusalLine e) r (now (text .entry)) (now (text .exit)) ⌝ }
-{
-    put_number(text, 0, b'E', words::numbers_of(e).number)
+    characters::put(text, at + 34, b"\n");
 }
 
 fn put_step(text: &mut [u8], n: u8, state: &[u8], list: &[u8]) -> usize
@@ -157,7 +113,7 @@ fn put_step(text: &mut [u8], n: u8, state: &[u8], list: &[u8]) -> usize
     ensures { λ r. ⌜ Shows (stepText (StepAnswer.Stepped n) (now (state .entry)) (now (list .entry))) r (now (text .entry)) (now (text .exit)) ⌝ }
 {
     put_accesses(text, list, n as usize);
-    let at = put_number(text, 12 * n as usize, b'N', n);
+    let at = characters::put_number(text, 12 * n as usize, b'N', n as u64);
     put_record(text, at, state);
     at + 35
 }
@@ -168,7 +124,7 @@ fn put_answer(text: &mut [u8], a: StepAnswer, state: &[u8], list: &[u8]) -> usiz
 {
     match a {
         StepAnswer::Stepped(n) => put_step(text, n, state, list),
-        StepAnswer::Refused(e) => put_refusal(text, e),
+        StepAnswer::Refused(e) => characters::put_refusal(text, e),
     }
 }
 
@@ -178,14 +134,14 @@ pub fn print(input: &mut [u8], text: &mut [u8; 123]) -> usize
     ensures { λ r. ⌜ printout r (now (input .exit)) (now (text .exit)) ≡ printing (now (input .entry)) (now (text .entry)) ⌝ }
 {
     if input.len() < 16 {
-        return put_refusal(text, Refusal::RecordLength);
+        return characters::put_refusal(text, Refusal::RecordLength);
     }
     let mut state = record_of(input);
     if !formed::well_formed(&state) {
-        return put_refusal(text, Refusal::Malformed);
+        return characters::put_refusal(text, Refusal::Malformed);
     }
     if input.len() != 65554 {
-        return put_refusal(text, Refusal::ImageLength);
+        return characters::put_refusal(text, Refusal::ImageLength);
     }
     let lines = input[16];
     let pins = input[17];

@@ -3,7 +3,7 @@ use Prim.Native.Nat.{_%_}
 use native.Mathlib.Omega.{arith}
 use mathlib.Core.Path.{_≡_}
 use Rattle.rules.specs.declared.Refusal.{Refusal}
-use Rattle.rules.specs.declared.Refusal.the-variants.{RecordLength, Malformed, ImageLength, Lines, Room, Undefined, ScriptLength, FileLength, Admission, MapRecord, Vectors, Place, StoreAddress, Stack, Successor}
+use Rattle.rules.specs.declared.Refusal.the-variants.{RecordLength, Malformed, ImageLength, Lines, Room, Undefined, ScriptLength, FileLength, Admission, MapRecord, Vectors, Place, StoreAddress, Stack, Successor, ListLength, ListRecord, Total}
 use Rattle.rules.specs.Answers.{refusalWord}
 
 -- a refusal's number is not 0
@@ -23,3 +23,6 @@ numbered (Place i) h = absurd (omega (arith, h))
 numbered (StoreAddress i) h = absurd (omega (arith, h))
 numbered (Stack i) h = absurd (omega (arith, h))
 numbered (Successor i) h = absurd (omega (arith, h))
+numbered ListLength h = absurd (omega (arith, h))
+numbered ListRecord h = absurd (omega (arith, h))
+numbered Total h = absurd (omega (arith, h))

@@ -1,4 +1,4 @@
-// The numbers of document 01, and the word that carries them to the board.
+// The numbers of documents 01 and 02, and the word that carries them to the board.
 
 use rules::Numbers;
 use rules::Refusal;
@@ -49,6 +49,9 @@ pub fn numbers_of(e: Refusal) -> Numbers
         Refusal::StoreAddress(i) => indexed(14, i),
         Refusal::Stack(i) => indexed(15, i),
         Refusal::Successor(i) => indexed(16, i),
+        Refusal::ListLength => plain(20),
+        Refusal::ListRecord => plain(21),
+        Refusal::Total => plain(22),
     }
 }
 

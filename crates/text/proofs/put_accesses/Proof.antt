@@ -1,5 +1,6 @@
 use Rattle.rules.specs.Text.{each, lineOf}
-use Rattle.text.proofs.Laws.{each-more, line-length}
+use Rattle.characters.proofs.Laws.{each-more}
+use Rattle.text.proofs.Laws.{each-length, line-length}
 use Prim.Native.Nat.{_-_, _≤_}
 use native.Mathlib.Numerals.{add-one}
 use native.Mathlib.Omega.{arith}
@@ -27,7 +28,7 @@ loop-again : tie.Need-loop-again Inv-loop μ-loop
 loop-again c =
     let list = now (c .before .before .before .before .before .before .before .before .before .before .args .list) in
     let k = c .before .before .before .before .before .before .before .loop .k in
-    (omega arith, rw (c .before .before .put .ensures, c .before .before .before .before .line-of .ensures, c .before .before .before .before .before .before .before .loop .inv .1, add-one k) (each-more (lineOf list) 12 (line-length list) k 0 _ _ (omega arith)))
+    (omega arith, rw (c .before .before .put .ensures, c .before .before .before .before .line-of .ensures, c .before .before .before .before .before .before .before .loop .inv .1, add-one k) (each-more (lineOf list) k 0 _ _ (omega (arith, each-length (lineOf list) 12 (line-length list) k))))
 
 same-length : tie.Need-same-length Inv-loop μ-loop
 same-length c = rw (c .before .loop .inv .1) (rw length-sets)

@@ -1,6 +1,7 @@
 use lib.ListN.{getD}
 use Rattle.rules.specs.Text.{each, hex}
-use Rattle.text.proofs.Laws.{each-more}
+use Rattle.characters.proofs.Laws.{each-more}
+use Rattle.text.proofs.Laws.{each-length}
 use Prim.Native.Nat.{_-_, _≤_}
 use native.Mathlib.Numerals.{add-one}
 use native.Mathlib.Omega.{arith}
@@ -28,7 +29,7 @@ loop-again : tie.Need-loop-again Inv-loop μ-loop
 loop-again c =
     let state = now (c .before .before .before .before .before .before .before .before .before .before .before .args .state) in
     let k = c .before .before .before .before .before .before .before .before .loop .k in
-    (omega arith, rw (c .before .before .put .ensures, c .before .before .before .before .hex .ensures, c .before .before .before .before .before .before .before .before .loop .inv .1, add-one) (each-more (λ j. hex (getD state j 0)) 2 (λ j. refl) k _ _ _ (omega arith)))
+    (omega arith, rw (c .before .before .put .ensures, c .before .before .before .before .hex .ensures, c .before .before .before .before .before .before .before .before .loop .inv .1, add-one) (each-more (λ j. hex (getD state j 0)) k _ _ _ (omega (arith, each-length (λ j. hex (getD state j 0)) 2 (λ j. refl) k))))
 
 same-length : tie.Need-same-length Inv-loop μ-loop
 same-length c = rw (c .before .loop .inv .1) (rw length-sets)

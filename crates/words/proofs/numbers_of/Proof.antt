@@ -47,6 +47,15 @@ returns-14 c = rw (c .before .before .e5 .given .1) (c .indexed4 .ensures)
 returns-15 : tie.Need-returns-15
 returns-15 c = rw (c .before .before .e6 .given .1) (c .indexed5 .ensures)
 
+returns-16 : tie.Need-returns-16
+returns-16 c = rw (c .before .enum-told10 .given .1) (c .plain10 .ensures)
+
+returns-17 : tie.Need-returns-17
+returns-17 c = rw (c .before .enum-told11 .given .1) (c .plain11 .ensures)
+
+returns-18 : tie.Need-returns-18
+returns-18 c = rw (c .before .enum-told12 .given .1) (c .plain12 .ensures)
+
 pub numbers-of-spec : {M : Type 1} → statement M
 numbers-of-spec =
     tie.close
@@ -80,6 +89,12 @@ numbers-of-spec =
     (λ c κs. search needs)
     (λ c. search needs)
     (λ c κs. search needs)
+    (λ c. search needs)
+    (λ c κs. search needs)
+    (λ c. search needs)
+    (λ c κs. search needs)
+    (λ c. search needs)
+    (λ c κs. search needs)
     returns
     returns-2
     returns-3
@@ -94,4 +109,7 @@ numbers-of-spec =
     returns-12
     returns-13
     returns-14
-    returns-15)
+    returns-15
+    returns-16
+    returns-17
+    returns-18)

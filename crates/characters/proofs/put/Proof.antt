@@ -6,9 +6,9 @@ use mathlib.Core.Path.{_≡_, refl}
 use denote.Ref.{now}
 use lib.ListN.{length, take}
 use lib.Seq.{sets, length-sets, take-length}
-use Rattle.text.proofs.Laws.{sets-more}
-use Rattle.text.proofs.put.Statement.{statement}
-use Rattle.text.proofs.put.Tie as tie
+use Rattle.characters.proofs.Laws.{sets-more}
+use Rattle.characters.proofs.put.Statement.{statement}
+use Rattle.characters.proofs.put.Tie as tie
 
 abbrev Inv-loop : tie.InvT-loop
 Inv-loop text₀ at piece k₀ text k = (k ≤ length piece) × (text ≡ sets text₀ at (take k piece))

@@ -1,0 +1,45 @@
+use native.Mathlib.Omega.{arith}
+use mathlib.Core.Path.{_∙_}
+use denote.Ref.{now}
+use Rattle.characters.proofs.Laws.{spaced-most, number-put}
+use borrow.Author.Needs.{needs}
+use Rattle.characters.proofs.put_number.Statement.{statement}
+use Rattle.characters.proofs.put_number.Tie as tie
+
+put-requires-2 : tie.Need-put-requires-2
+put-requires-2 c κs =
+    let at-spaced = c .before .before .before .before in
+    let start = at-spaced .before .before .before .before .before .before .before .before in
+    let m = spaced-most (start .args .n) in
+    let e = at-spaced .put-spaced .ensures .0 in
+    search needs
+
+add-result : tie.Need-add-result
+add-result c =
+    let at-spaced = c .before .before .before .before .before .before .before in
+    let start = at-spaced .before .before .before .before .before .before .before .before in
+    let m = spaced-most (start .args .n) in
+    let e = at-spaced .put-spaced .ensures .0 in
+    omega (arith, start .pre, start .good .0 .0)
+
+returns : tie.Need-returns
+returns c =
+    let at-spaced = c .before .before .before .before .before .before .before in
+    let at-put = at-spaced .before .before .before .before in
+    let start = at-put .before .before .before .before in
+    let h = number-put (start .args .letter) (start .args .n) (start .args .at) _ (now (start .args .text)) (at-spaced .put-spaced .ensures .0) in
+    (h .0, c .before .before .put2 .ensures ∙ (rw (at-spaced .put-spaced .ensures .1, at-put .put .ensures) (h .1)))
+
+pub put-number-spec : {M : Type 1} → statement M
+put-number-spec =
+    tie.close
+    (tie.spec
+    (λ c. search needs)
+    (λ c κs. search needs)
+    (λ c. search needs)
+    (λ c κs. search needs)
+    (λ c. search needs)
+    put-requires-2
+    add-result
+    (λ c. search needs)
+    returns)

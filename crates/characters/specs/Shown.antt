@@ -1,0 +1,17 @@
+-- A number's digits at the end of twenty bytes, and a text at the front of a buffer.
+use Prim.Native.Nat.{ℕ, _<_}
+use mathlib.Core.Path.{_≡_}
+use mathlib.Core.List.{List}
+use lib.ListN.{length, drop}
+use Rattle.rules.specs.Step.{front}
+use Rattle.rules.specs.Text.{decimal}
+
+-- it has n bytes, and later bytes stay
+pub record Shows (l : List ℕ) (n : ℕ) (t t′ : List ℕ) : Type 0 where
+  pub count : n ≡ length l
+  pub text : t′ ≡ front l t
+
+pub record Spells (n from : ℕ) (bytes : List ℕ) : Type 0 where
+  pub inside : from < 20
+  pub size : length bytes ≡ 20
+  pub digits : drop from bytes ≡ decimal n

@@ -1,0 +1,96 @@
+-- Numbers and lists as the loops of counting go over them.
+use Prim.Native.Nat.{ℕ, zero, suc, _+_, _-_, _*_, _/_, _%_, _<_, _≤_, _^_}
+use native.Mathlib.Numerals.{add-one}
+use native.Mathlib.Omega.{arith}
+use native.Mathlib.Nat.{le-of-suc-le-suc}
+use native.Mathlib.Decide.{ℕ-discrete, decLe}
+use mathlib.Core.Path.{_≡_, refl}
+use mathlib.Core.Bool.{Bool, true, false, _&&_}
+use mathlib.Core.List.{List, [], _∷_}
+use borrow.Author.Tests.{le-leb, lt-leb, lt-ltb, le-ltb, leb-true, ltb-true, ltb-false, eq-eqb, ne-eqb}
+use lib.Arith.{lt-of-le-ne}
+use lib.Dec.{leb, ltb, eqb, eqb·suc-zero}
+use lib.ListN.{length, take}
+use lib.Seq.{take-length}
+use Rattle.rules.specs.Basics.{if_then_else_, all, at}
+use Rattle.rules.specs.Pages.{pageOf, kindOf, isRecord, raised, counted, sum}
+use Rattle.laws.proofs.Tests.{and-true, and-left, all-at}
+use Rattle.pages.specs.declared.Totalled.the-variants.{Sum, PastAll}
+use Rattle.pages.specs.Totals.{totalOf}
+
+and-false : (b : Bool) → (b && false) ≡ false
+and-false true = refl
+and-false false = refl
+
+-- four bytes as one number
+pub one-number : (a b c d : ℕ) → leb (a + 256 * b + 65536 * c + 16777216 * d) 1 ≡ (leb a 1 && eqb b 0 && eqb c 0 && eqb d 0)
+one-number a (suc b) c d = rw (lt-leb (a + 256 * suc b + 65536 * c + 16777216 * d) 1 (omega arith), eqb·suc-zero b, and-false (leb a 1))
+one-number a zero (suc c) d =
+    rw (lt-leb (a + 256 * 0 + 65536 * suc c + 16777216 * d) 1 (omega arith), eqb·suc-zero c, and-false (leb a 1 && eqb 0 0))
+one-number a zero zero (suc d) =
+    rw (lt-leb (a + 256 * 0 + 65536 * 0 + 16777216 * suc d) 1 (omega arith), eqb·suc-zero d, and-false (leb a 1 && eqb 0 0 && eqb 0 0))
+one-number a zero zero zero =
+    let e : a + 256 * 0 + 65536 * 0 + 16777216 * 0 ≡ a = omega arith in
+    rw (e, and-true (leb a 1), and-true (leb a 1), and-true (leb a 1))
+
+-- a test that fails below n
+pub all-fails : (n k : ℕ) (f : ℕ → Bool) → k < n → f k ≡ false → all n f ≡ false
+all-fails zero k f h e = absurd (omega arith)
+all-fails (suc n) k f h e = go (λ l. all-fails n k f l e) (ℕ-discrete k n)
+  where
+    go : (k < n → all n f ≡ false) → Dec (k ≡ n) → all (suc n) f ≡ false
+    go rest (yes p) = rw (← p, e)
+    go rest (no p) = rw (rest (lt-of-le-ne (le-of-suc-le-suc h) p), and-false (f n))
+
+pub sum-more : (l : List ℕ) (k : ℕ) → k < length l → sum (take (suc k) l) ≡ sum (take k l) + at l k
+unfolding sum
+sum-more [] k h = absurd (omega arith)
+sum-more (x ∷ l) zero h = omega arith
+sum-more (x ∷ l) (suc k) h = let e = sum-more l k (omega arith) in omega arith
+
+pub sum-all : (l : List ℕ) (k : ℕ) → length l ≡ k → sum (take k l) ≡ sum l
+sum-all l k e = rw (← e, take-length l)
+
+-- A sum in two halves, each of which may be more than 32 bits.
+module _ (high low s : ℕ) (halves : high * 4294967296 + low ≡ s) where
+  pub fits : high + low / 4294967296 < 4294967296 → Sum ((high + low / 4294967296) * 4294967296 + low % 4294967296) ≡ totalOf s
+  fits h =
+      let e : (high + low / 4294967296) * 4294967296 + low % 4294967296 ≡ s = omega arith in rw (e, lt-ltb s (2 ^ 64) (omega arith))
+
+  pub passes : 4294967296 ≤ high + low / 4294967296 → PastAll ≡ totalOf s
+  passes h = rw (le-ltb s (2 ^ 64) (omega arith))
+
+-- room for n more, by what the sum is
+pub room-beside : (s t n : ℕ) → Sum t ≡ totalOf s → leb n (18446744073709551615 - t) ≡ ltb (s + n) (2 ^ 64)
+room-beside s t n e = go (ltb s (2 ^ 64)) refl e
+  where
+    with-room : s < 2 ^ 64 → Dec (n ≤ 18446744073709551615 - s) → leb n (18446744073709551615 - s) ≡ ltb (s + n) (2 ^ 64)
+    with-room h (yes i) = rw (le-leb n (18446744073709551615 - s) i, lt-ltb (s + n) (2 ^ 64) (omega arith))
+    with-room h (no i) = rw (lt-leb n (18446744073709551615 - s) (omega arith), le-ltb (s + n) (2 ^ 64) (omega arith))
+
+    go : (b : Bool) → ltb s (2 ^ 64) ≡ b → Sum t ≡ (if b then Sum s else PastAll) → leb n (18446744073709551615 - t) ≡ ltb (s + n) (2 ^ 64)
+    go true h i = let same : t ≡ s = cc in rw same (with-room (ltb-true s (2 ^ 64) h) (decLe n (18446744073709551615 - s)))
+    go false h i = let z : _≡_ {A = ℕ} 0 1 = cc in absurd (omega arith)
+
+pub no-room : (s n : ℕ) → PastAll ≡ totalOf s → false ≡ ltb (s + n) (2 ^ 64)
+no-room s n e = go (ltb s (2 ^ 64)) refl e
+  where
+    go : (b : Bool) → ltb s (2 ^ 64) ≡ b → PastAll ≡ (if b then Sum s else PastAll) → false ≡ ltb (s + n) (2 ^ 64)
+    go true h i = let z : _≡_ {A = ℕ} 0 1 = cc in absurd (omega arith)
+    go false h i = rw (le-ltb (s + n) (2 ^ 64) (omega (arith, ltb-false s (2 ^ 64) h)))
+
+-- One record more counts where it is of the kind, and else does not.
+module _ (kind : ℕ) (counts l : List ℕ) (k : ℕ) where
+  pub raises : kindOf l k ≡ kind → counted kind counts l (k + 1) ≡ raised (counted kind counts l k) (pageOf l k)
+  unfolding counted
+  raises e = rw (add-one k, eq-eqb (kindOf l k) kind e)
+
+  pub skips : (kindOf l k ≡ kind → ⊥) → counted kind counts l (k + 1) ≡ counted kind counts l k
+  unfolding counted
+  skips e = rw (add-one k, ne-eqb (kindOf l k) kind e)
+
+-- a record that is no read is a write
+pub is-write : (l : List ℕ) (n k : ℕ) → all n (isRecord l) ≡ true → k < n → (kindOf l k ≡ 0 → ⊥) → kindOf l k ≡ 1
+is-write l n k h i e =
+    let t = leb-true (kindOf l k) 1 (and-left _ _ (and-left _ _ (and-left _ _ (all-at n (isRecord l) h k i)))) in
+    omega arith

@@ -1,0 +1,127 @@
+// The counts of accesses by page: document 02, "Cycles by page".
+
+use rules::CountAnswer;
+use rules::Refusal;
+ghost use mathlib.Core.Path.{_≡_};
+ghost use mathlib.Core.Bool.{_&&_};
+ghost use Prim.Native.Nat.{_+_, _*_, _/_, _≤_, _<_, _^_};
+ghost use lib.Dec.{ltb, leb, eqb};
+ghost use lib.ListN.{length};
+ghost use Rattle.rules.specs.Basics.{all, at};
+ghost use Rattle.rules.specs.Pages.{isRecord, recordsIn, raised, counted, counting, fed, sum};
+ghost use Rattle.pages.specs.Totals.{Counts, totalOf};
+
+// 2^32: what the two halves of a 64-bit number are parted by.
+const HALF: u64 = 4294967296;
+
+// All counts together.
+pub enum Totalled {
+    Sum(u64),
+    PastAll,
+}
+
+// "a record with byte 4 above 1 or bytes 5 to 7 not zero". The four are judged as one number, low byte first: so the compiler reads and
+// compares them at once.
+fn ends(kind: u8, fifth: u8, sixth: u8, seventh: u8) -> bool
+    ensures { λ r. ⌜ r ≡ (leb kind 1 && eqb fifth 0 && eqb sixth 0 && eqb seventh 0) ⌝ }
+{
+    kind as u32 + 256 * fifth as u32 + 65536 * sixth as u32 + 16777216 * seventh as u32 <= 1
+}
+
+fn is_record(list: &[u8], k: usize) -> bool
+    requires { ⌜ 8 * k + 8 ≤ length (now list) ⌝ }
+    ensures { λ r. ⌜ r ≡ isRecord (now (list .entry)) k ⌝ }
+{
+    let p = 8 * k;
+    ends(list[p + 4], list[p + 5], list[p + 6], list[p + 7])
+}
+
+fn are_records(list: &[u8]) -> bool
+    ensures { λ r. ⌜ r ≡ all (recordsIn (now (list .entry))) (isRecord (now (list .entry))) ⌝ }
+{
+    let n = list.len() / 8;
+    let mut k = 0;
+    while k < n {
+        if !is_record(list, k) {
+            return false;
+        }
+        k += 1;
+    }
+    true
+}
+
+// The sum of all counts may take 73 bits. High and low halves are summed apart, and neither sum can overflow.
+pub fn total_of(reads: &[u64], writes: &[u64]) -> Totalled
+    requires { ⌜ (length (now reads) ≡ 256) × (length (now writes) ≡ 256) ⌝ }
+    ensures { λ r. ⌜ r ≡ totalOf (sum (now (reads .entry)) + sum (now (writes .entry))) ⌝ }
+{
+    let mut high: u64 = 0;
+    let mut low: u64 = 0;
+    let mut k = 0;
+    while k < 256 {
+        let r = reads[k];
+        let w = writes[k];
+        high = high + r / HALF + w / HALF;
+        low = low + r % HALF + w % HALF;
+        k += 1;
+    }
+    let top = high + low / HALF;
+    if top < HALF {
+        return Totalled::Sum(top * HALF + low % HALF);
+    }
+    Totalled::PastAll
+}
+
+// "a total of all counts that would pass 64 bits": whether n more can be counted.
+fn room_for(reads: &[u64], writes: &[u64], n: u64) -> bool
+    requires { ⌜ (length (now reads) ≡ 256) × (length (now writes) ≡ 256) ⌝ }
+    ensures { λ r. ⌜ r ≡ ltb (sum (now (reads .entry)) + sum (now (writes .entry)) + n) (2 ^ 64) ⌝ }
+{
+    match total_of(reads, writes) {
+        Totalled::Sum(total) => n <= u64::MAX - total,
+        Totalled::PastAll => false,
+    }
+}
+
+fn raise(counts: &mut [u64; 256], page: u8)
+    requires { ⌜ at (now counts) page + 1 < 2 ^ 64 ⌝ }
+    ensures { λ r. ⌜ now (counts .exit) ≡ raised (now (counts .entry)) page ⌝ }
+{
+    let p = page as usize;
+    counts[p] = counts[p] + 1;
+}
+
+// Each record adds one to a count. No count overflows, since not even their sum does.
+fn count(reads: &mut [u64; 256], writes: &mut [u64; 256], list: &[u8])
+    requires { ⌜ Counts (now reads) (now writes) (now list) ⌝ }
+    ensures { λ r. ⌜ (now (reads .exit) ≡ counted 0 (now (reads .entry)) (now (list .entry)) (recordsIn (now (list .entry)))) × (now (writes .exit) ≡ counted 1 (now (writes .entry)) (now (list .entry)) (recordsIn (now (list .entry)))) ⌝ }
+{
+    let n = list.len() / 8;
+    let mut k = 0;
+    while k < n {
+        let page = list[8 * k + 1];
+        if list[8 * k + 4] == 0 {
+            raise(reads, page);
+        } else {
+            raise(writes, page);
+        }
+        k += 1;
+    }
+}
+
+// A list is fed to the counts: 20, 21 and 22 are judged of the whole of it before the first count is raised.
+pub fn feed(reads: &mut [u64; 256], writes: &mut [u64; 256], list: &[u8]) -> CountAnswer
+    ensures { λ r. ⌜ counting r (now (reads .exit)) (now (writes .exit)) ≡ fed (now (reads .entry)) (now (writes .entry)) (now (list .entry)) ⌝ }
+{
+    if list.len() % 8 != 0 {
+        return CountAnswer::Uncounted(Refusal::ListLength);
+    }
+    if !are_records(list) {
+        return CountAnswer::Uncounted(Refusal::ListRecord);
+    }
+    if !room_for(reads, writes, list.len() as u64 / 8) {
+        return CountAnswer::Uncounted(Refusal::Total);
+    }
+    count(reads, writes, list);
+    CountAnswer::Counted
+}
