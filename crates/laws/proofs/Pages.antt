@@ -137,11 +137,20 @@ module _ (l m : List ℕ) (whole : length l % 8 ≡ 0) where
   all-before zero h = refl
   all-before (suc n) h = rw (record-before n h, all-before n (omega arith))
 
-  -- the joined list's records are those of both
+  pub rest-joined : length (l ++ m) % 8 ≡ length m % 8
+  rest-joined = rw (length-append l m) (omega arith)
+
+  pub records-joined : recordsIn (l ++ m) ≡ recordsIn l + recordsIn m
+  records-joined = rw (length-append l m) (omega arith)
+
   all-behind : (n : ℕ) → all (recordsIn l + n) (isRecord (l ++ m)) ≡ (all n (isRecord m) && all (recordsIn l) (isRecord l))
   all-behind zero = let e : recordsIn l + 0 ≡ recordsIn l = omega arith in rw e (all-before (recordsIn l) (le-refl (recordsIn l)))
   all-behind (suc n) =
       let e : recordsIn l + suc n ≡ suc (recordsIn l + n) = omega arith in rw (e, record-behind n, all-behind n) (and-assoc (isRecord m n) _ _)
+
+  -- the joined list's records are those of both
+  pub all-joined : all (recordsIn (l ++ m)) (isRecord (l ++ m)) ≡ (all (recordsIn m) (isRecord m) && all (recordsIn l) (isRecord l))
+  all-joined = rw records-joined (all-behind (recordsIn m))
 
   module _ (kind : ℕ) (counts : List ℕ) where
     counted-before : (n : ℕ) → n ≤ recordsIn l → counted kind counts (l ++ m) n ≡ counted kind counts l n
@@ -183,16 +192,11 @@ module _ (r w l m : List ℕ) (pages : length r ≡ 256) (pages′ : length w �
   whole : length l % 8 ≡ 0
   whole = eqb-true (length l % 8) 0 (first .0)
 
-  together : recordsIn (l ++ m) ≡ recordsIn l + recordsIn m
-  together = let h = whole in rw (length-append l m) (omega arith)
-
   pub joined-tests : countTests r w (l ++ m) ≡ countTests reads writes m
   joined-tests =
-      let h = whole in
-      let a : length (l ++ m) % 8 ≡ length m % 8 = rw (length-append l m) (omega arith) in
       let t = total r w l pages pages′ bytes (recordsIn l) (first .1 .0) in
       let s : sum r + sum w + (recordsIn l + recordsIn m) ≡ sum reads + sum writes + recordsIn m = omega arith in
-      rw (a, together, all-behind l m whole (recordsIn m), first .1 .0, and-true (all (recordsIn m) (isRecord m)), s)
+      rw (rest-joined l m whole, all-joined l m whole, first .1 .0, and-true (all (recordsIn m) (isRecord m)), records-joined l m whole, s)
 
   pub joined : fed r w (l ++ m) ≡ tested (countTests reads writes m) (λ e. counting (Uncounted e) r w)
       (counting Counted (counted 0 reads m (recordsIn m)) (counted 1 writes m (recordsIn m)))
@@ -201,7 +205,7 @@ module _ (r w l m : List ℕ) (pages : length r ≡ 256) (pages′ : length w �
       ap
       (λ (ts : List Test). tested ts (λ e. counting (Uncounted e) r w)
       (counting Counted (counted 0 r (l ++ m) (recordsIn (l ++ m))) (counted 1 w (l ++ m) (recordsIn (l ++ m))))) joined-tests
-      ∙ (rw (together, counted-behind l m whole 0 r (recordsIn m), counted-behind l m whole 1 w (recordsIn m)))
+      ∙ (rw (records-joined l m whole, counted-behind l m whole 0 r (recordsIn m), counted-behind l m whole 1 w (recordsIn m)))
 
 -- a list that is counted, and then another, leave what both joined leave
 pub fed-joined : (r w l m : List ℕ) → length r ≡ 256 → length w ≡ 256 → Bytes l → fed r w l .answer ≡ Counted →

@@ -18,7 +18,7 @@ use Rattle.laws.proofs.Tests.{and-true, and-left, all-at}
 use Rattle.pages.specs.declared.Totalled.the-variants.{Sum, PastAll}
 use Rattle.pages.specs.Totals.{totalOf}
 
-and-false : (b : Bool) → (b && false) ≡ false
+pub and-false : (b : Bool) → (b && false) ≡ false
 and-false true = refl
 and-false false = refl
 

@@ -1,2 +1,3 @@
 pub mod Counting
 pub mod Feeding
+pub mod Blocks

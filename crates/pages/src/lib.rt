@@ -1,15 +1,20 @@
 // The counts of accesses by page: document 02, "Cycles by page".
 
 use rules::CountAnswer;
+use rules::Counting;
 use rules::Refusal;
 ghost use mathlib.Core.Path.{_≡_};
 ghost use mathlib.Core.Bool.{_&&_};
-ghost use Prim.Native.Nat.{_+_, _*_, _/_, _≤_, _<_, _^_};
+ghost use mathlib.Core.List.{List, [], _++_};
+ghost use Prim.Native.Nat.{ℕ, _+_, _*_, _%_, _≤_, _<_, _^_};
 ghost use lib.Dec.{ltb, leb, eqb};
 ghost use lib.ListN.{length};
 ghost use Rattle.rules.specs.Basics.{all, at};
-ghost use Rattle.rules.specs.Pages.{isRecord, recordsIn, raised, counted, counting, fed, sum};
+ghost use Rattle.rules.specs.Answers.{tested};
+ghost use Rattle.rules.specs.Pages.{isRecord, recordsIn, raised, counted, formTests, counting, fed, sum, countingOf};
+ghost use Rattle.laws.proofs.Pages.{Bytes};
 ghost use Rattle.pages.specs.Totals.{Counts, totalOf};
+ghost use Rattle.pages.specs.Blocks.{refusedBy, further};
 
 // 2^32: what the two halves of a 64-bit number are parted by.
 const HALF: u64 = 4294967296;
@@ -124,4 +129,62 @@ pub fn feed(reads: &mut [u64; 256], writes: &mut [u64; 256], list: &[u8]) -> Cou
     }
     count(reads, writes, list);
     CountAnswer::Counted
+}
+
+// Nothing was fed yet.
+pub fn none() -> Counting
+    ensures { λ r. ⌜ r ≡ countingOf [] ⌝ }
+{
+    Counting {
+        answer: CountAnswer::Counted,
+        reads: [0; 256],
+        writes: [0; 256],
+    }
+}
+
+// "the counts stay": all zero, as they were before the list.
+fn refused(e: Refusal) -> Counting
+    ensures { λ r. ⌜ r ≡ refusedBy e ⌝ }
+{
+    Counting {
+        answer: CountAnswer::Uncounted(e),
+        reads: [0; 256],
+        writes: [0; 256],
+    }
+}
+
+// A list that is refused for e so far is refused for what comes before that, where the next block shows it.
+fn refused_for(e: Refusal, block: &[u8]) -> Counting
+    ensures { λ r. ⌜ r ≡ tested (formTests (now (block .entry))) refusedBy (refusedBy e) ⌝ }
+{
+    if block.len() % 8 != 0 {
+        return refused(Refusal::ListLength);
+    }
+    if !are_records(block) {
+        return refused(Refusal::ListRecord);
+    }
+    refused(e)
+}
+
+// A list that is longer than any buffer comes in blocks. The counting of what came so far, whole records, becomes that with one block more.
+pub fn next(counts: Counting, block: &[u8]) -> Counting
+    ensures exact { λ r. ⌜ r ≡ further counts (now (block .entry)) ⌝ }
+    ensures joined { λ r. ⌜ ((l : List ℕ) → Bytes l → length l % 8 ≡ 0 → counts ≡ countingOf l → r ≡ countingOf (l ++ now (block .entry))) ⌝ }
+{
+    let answer = counts.answer;
+    match answer {
+        CountAnswer::Counted => {
+            let mut reads = counts.reads;
+            let mut writes = counts.writes;
+            match feed(&mut reads, &mut writes, block) {
+                CountAnswer::Counted => Counting {
+                    answer: CountAnswer::Counted,
+                    reads: reads,
+                    writes: writes,
+                },
+                CountAnswer::Uncounted(e) => refused(e),
+            }
+        }
+        CountAnswer::Uncounted(e) => refused_for(e, block),
+    }
 }

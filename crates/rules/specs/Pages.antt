@@ -45,12 +45,11 @@ recordsIn l = length l / 8
 
 -- "a list whose length is no multiple of 8 gives 20, a record .. gives 21, a total of all counts that would pass 64 bits gives 22, in that
 -- order"
+abbrev pub formTests : List ℕ → List Test
+formTests l = ListLength unless eqb (length l % 8) 0 ∷ ListRecord unless all (recordsIn l) (isRecord l) ∷ []
+
 abbrev pub countTests : List ℕ → List ℕ → List ℕ → List Test
-countTests reads writes l =
-    ListLength unless eqb (length l % 8) 0
-    ∷ ListRecord unless all (recordsIn l) (isRecord l)
-    ∷ Total unless ltb (sum reads + sum writes + recordsIn l) (2 ^ 64)
-    ∷ []
+countTests reads writes l = formTests l ++ Total unless ltb (sum reads + sum writes + recordsIn l) (2 ^ 64) ∷ []
 
 abbrev pub counting : CountAnswer → List ℕ → List ℕ → Counting
 counting a reads writes = record { answer = a; reads = reads; writes = writes }
@@ -62,7 +61,7 @@ fed reads writes l =
     (counting Counted (counted 0 reads l (recordsIn l)) (counted 1 writes l (recordsIn l)))
 
 -- "starting from all zero"
-abbrev pub none : List ℕ
+unfoldable pub none : List ℕ
 none = replicate 256 0
 
 abbrev pub countingOf : List ℕ → Counting

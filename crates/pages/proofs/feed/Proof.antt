@@ -8,14 +8,8 @@ use Rattle.pages.proofs.feed.Tie as tie
 returns : tie.Need-returns
 returns c = cut _ _ _ (c .if1 .taken)
 
-are-records-requires : tie.Need-are-records-requires
-are-records-requires c κs = search needs
-
 returns-2 : tie.Need-returns-2
 returns-2 c = malformed _ _ _ (c .before .before .if1 .left) (sym (c .before .are-records .ensures) ∙ not-true _ (c .if2 .taken))
-
-room-for-requires : tie.Need-room-for-requires
-room-for-requires c κs = search needs
 
 returns-3 : tie.Need-returns-3
 returns-3 c =
@@ -45,9 +39,9 @@ feed-spec =
     tie.close
     (tie.spec
     returns
-    are-records-requires
+    (λ c κs. search needs)
     returns-2
-    room-for-requires
+    (λ c κs. search needs)
     returns-3
     count-requires
     returns-4)

@@ -7,18 +7,6 @@ use borrow.Author.Needs.{needs}
 use Rattle.pages.proofs.room_for.Statement.{statement}
 use Rattle.pages.proofs.room_for.Tie as tie
 
-total-of-requires : tie.Need-total-of-requires
-total-of-requires c κs = search needs
-
-enum-known-total : tie.Need-enum-known-total
-enum-known-total c = search needs
-
-sub-result : tie.Need-sub-result
-sub-result c = search needs
-
-enum-told : tie.Need-enum-told
-enum-told c = search needs
-
 returns : tie.Need-returns
 returns c =
     let at-total = c .before .before .before in
@@ -35,4 +23,4 @@ returns-2 c =
 
 pub room-for-spec : {M : Type 1} → statement M
 room-for-spec =
-    tie.close (tie.spec total-of-requires enum-known-total sub-result enum-told returns returns-2)
+    tie.close (tie.spec (λ c κs. search needs) (λ c. search needs) (λ c. search needs) (λ c. search needs) returns returns-2)
