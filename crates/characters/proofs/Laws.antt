@@ -14,7 +14,7 @@ use Rattle.rules.specs.Step.{front}
 use Rattle.rules.specs.Text.{digit, digits, decimal, spaced, numberLine, each}
 use Rattle.laws.proofs.Lists.{sets-append, rest-lent}
 use Rattle.laws.proofs.Tests.{if-case}
-use Rattle.characters.specs.Shown.{Shows, Spells}
+use Rattle.characters.specs.Shown.{Spells, Puts, Shows}
 
 -- one element more of a piece
 pub sets-more : (t l : List ℕ) (p k : ℕ) → k < length l → set (sets t p (take k l)) (p + k) (at l k) ≡ sets t p (take (suc k) l)
@@ -84,30 +84,39 @@ module _ (spelt bytes : List ℕ) where
       set-before bytes p (digit rest) (omega (arith, s .inside, s .size)) ∙ ap (λ (l : List ℕ). l ++ drop (suc p) bytes) (sym (one-digit p rest h))
       ∙ s .digits
 
+pub puts-piece : (l : List ℕ) (p : ℕ) {t t′ : List ℕ} → t′ ≡ sets t p l → Puts l p (p + length l) t t′
+puts-piece l p e = record { end = refl; text = e }
+
+-- one text, and another behind it
+pub puts-append : {a b t u v : List ℕ} {p q r : ℕ} → Puts a p q t u → Puts b q r u v → Puts (a ++ b) p r t v
+puts-append {a} {b} {t} {u} {v} {p} {q} {r} x y =
+    record {
+      end = omega (arith, x .end, y .end, length-append a b);
+      text = y .text ∙ (rw (x .text, x .end) (sym (sets-append a b t p)));
+    }
+
 -- a space and the digits behind it
 pub spaced-put : (n from p : ℕ) (bytes t : List ℕ) → Spells n from bytes →
-    (p + 21 - from ≡ p + length (spaced n)) × (sets (sets t p (code " " ∷ [])) (p + 1) (take (20 - from) (drop from bytes)) ≡ sets t p (spaced n))
+    Puts (spaced n) p (p + 21 - from) t (sets (sets t p (code " " ∷ [])) (p + 1) (take (20 - from) (drop from bytes)))
 spaced-put n from p bytes t s =
     let all = ap (λ (k : ℕ). take (k - from) (drop from bytes)) (sym (s .size)) ∙ rest-lent from bytes ∙ s .digits in
     let size : length (decimal n) ≡ 20 - from = rw (← s .digits, length-drop from bytes, s .size) in
-    (omega (arith, size, s .inside), rw (add-one p, all))
+    record { end = omega (arith, size, s .inside); text = rw (add-one p, all) }
 
 pub spaced-most : (n : ℕ) → length (spaced n) ≤ 21
 spaced-most n = let h = digits-most 20 n in omega arith
 
 -- a letter, a space and a number, and the line's end
-pub number-put : (letter n p q : ℕ) (t : List ℕ) → q ≡ p + 1 + length (spaced n) →
-    (q + 1 ≡ p + length (numberLine letter n)) × (sets (sets (sets t p (letter ∷ [])) (p + 1) (spaced n)) q (code "\n" ∷ []) ≡ sets t p (numberLine letter n))
+pub number-put : (letter n p q : ℕ) (t u v w : List ℕ) → u ≡ sets t p (letter ∷ []) → Puts (spaced n) (p + 1) q u v →
+    w ≡ sets v q (code "\n" ∷ []) → Puts (numberLine letter n) p (q + 1) t w
 unfolding numberLine
-number-put letter n p q t e =
-    let size = length-append (spaced n) (code "\n" ∷ []) in
-    (omega (arith, size), rw (e, add-one p) (sym (sets-append (spaced n) (code "\n" ∷ []) (set t p letter) (suc p))))
+number-put letter n p q t u v w a b d =
+    puts-append (puts-piece (letter ∷ []) p a) (puts-append b (puts-piece (code "\n" ∷ []) q d))
 
 pub number-most : (letter n : ℕ) → length (numberLine letter n) ≤ 23
 unfolding numberLine
 number-most letter n = omega (arith, spaced-most n, length-append (spaced n) (code "\n" ∷ []))
 
-pub number-shown : (letter n r : ℕ) (t t′ : List ℕ) → 23 ≤ length t → r ≡ 0 + length (numberLine letter n) → t′ ≡ sets t 0 (numberLine letter n) →
-    Shows (numberLine letter n) r t t′
-number-shown letter n r t t′ room e h =
-    record { count = omega arith; text = h ∙ sets-front (numberLine letter n) t (omega (arith, number-most letter n)) }
+-- what is put at the front, and fits
+pub puts-shown : {l t t′ : List ℕ} {r : ℕ} → Puts l 0 r t t′ → length l ≤ length t → Shows l r t t′
+puts-shown {l} {t} x h = record { count = omega (arith, x .end); text = x .text ∙ sets-front l t h }

@@ -6,7 +6,7 @@ ghost use mathlib.Core.Path.{_≡_};
 ghost use lib.ListN.{length};
 ghost use lib.Seq.{sets};
 ghost use Rattle.rules.specs.Text.{digit, spaced, numberLine, refusalLine};
-ghost use Rattle.characters.specs.Shown.{Shows, Spells};
+ghost use Rattle.characters.specs.Shown.{Spells, Puts, Shows};
 
 // A number in decimal: its digits stand at the end of the twenty bytes.
 struct Spelt {
@@ -53,7 +53,7 @@ pub fn put(text: &mut [u8], at: usize, piece: &[u8])
 // A space and a number in decimal; answers where it ends.
 pub fn put_spaced(text: &mut [u8], at: usize, n: u64) -> usize
     requires { ⌜ at + 21 ≤ length (now text) ⌝ }
-    ensures { λ r. ⌜ (r ≡ at + length (spaced n)) × (now (text .exit) ≡ sets (now (text .entry)) at (spaced n)) ⌝ }
+    ensures { λ r. ⌜ Puts (spaced n) at r (now (text .entry)) (now (text .exit)) ⌝ }
 {
     let d = decimal(n);
     let from = d.from;
@@ -66,7 +66,7 @@ pub fn put_spaced(text: &mut [u8], at: usize, n: u64) -> usize
 // A letter and a number in decimal; answers where the line ends.
 pub fn put_number(text: &mut [u8], at: usize, letter: u8, n: u64) -> usize
     requires { ⌜ at + 23 ≤ length (now text) ⌝ }
-    ensures { λ r. ⌜ (r ≡ at + length (numberLine letter n)) × (now (text .exit) ≡ sets (now (text .entry)) at (numberLine letter n)) ⌝ }
+    ensures { λ r. ⌜ Puts (numberLine letter n) at r (now (text .entry)) (now (text .exit)) ⌝ }
 {
     put(text, at, &[letter]);
     let end = put_spaced(text, at + 1, n);

@@ -84,14 +84,16 @@ pageLine page reads writes = hex page ++ spaced reads ++ spaced writes ++ code "
 
 -- "one line per page with any traffic"
 abbrev pub trafficLine : List ℕ → List ℕ → ℕ → List ℕ
-trafficLine reads writes page = if eqb (at reads page + at writes page) 0 then [] else pageLine page (at reads page) (at writes page)
+trafficLine reads writes page =
+    let r = at reads page in
+    let w = at writes page in
+    if eqb r 0 && eqb w 0 then [] else pageLine page r w
 
--- "then the total"
-abbrev pub totalLine : ℕ → List ℕ
-totalLine n = numberLine (code "T") n
-
+-- "then the total", which 22 keeps within 64 bits
 abbrev pub reportText : CountAnswer → List ℕ → List ℕ → List ℕ
-reportText Counted reads writes = each 256 (trafficLine reads writes) ++ totalLine (sum reads + sum writes)
+reportText Counted reads writes =
+    let total = sum reads + sum writes in
+    if ltb total (2 ^ 64) then each 256 (trafficLine reads writes) ++ numberLine (code "T") total else refusalLine Total
 reportText (Uncounted e) reads writes = refusalLine e
 
 unfoldable pub reportOf : Counting → List ℕ

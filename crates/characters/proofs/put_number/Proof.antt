@@ -1,5 +1,4 @@
 use native.Mathlib.Omega.{arith}
-use mathlib.Core.Path.{_∙_}
 use denote.Ref.{now}
 use Rattle.characters.proofs.Laws.{spaced-most, number-put}
 use borrow.Author.Needs.{needs}
@@ -11,7 +10,7 @@ put-requires-2 c κs =
     let at-spaced = c .before .before .before .before in
     let start = at-spaced .before .before .before .before .before .before .before .before in
     let m = spaced-most (start .args .n) in
-    let e = at-spaced .put-spaced .ensures .0 in
+    let e = at-spaced .put-spaced .ensures .end in
     search needs
 
 add-result : tie.Need-add-result
@@ -19,7 +18,7 @@ add-result c =
     let at-spaced = c .before .before .before .before .before .before .before in
     let start = at-spaced .before .before .before .before .before .before .before .before in
     let m = spaced-most (start .args .n) in
-    let e = at-spaced .put-spaced .ensures .0 in
+    let e = at-spaced .put-spaced .ensures .end in
     omega (arith, start .pre, start .good .0 .0)
 
 returns : tie.Need-returns
@@ -27,8 +26,8 @@ returns c =
     let at-spaced = c .before .before .before .before .before .before .before in
     let at-put = at-spaced .before .before .before .before in
     let start = at-put .before .before .before .before in
-    let h = number-put (start .args .letter) (start .args .n) (start .args .at) _ (now (start .args .text)) (at-spaced .put-spaced .ensures .0) in
-    (h .0, c .before .before .put2 .ensures ∙ (rw (at-spaced .put-spaced .ensures .1, at-put .put .ensures) (h .1)))
+    number-put (start .args .letter) (start .args .n) (start .args .at) _ (now (start .args .text)) _ _ _ (at-put .put .ensures)
+    (at-spaced .put-spaced .ensures) (c .before .before .put2 .ensures)
 
 pub put-number-spec : {M : Type 1} → statement M
 put-number-spec =

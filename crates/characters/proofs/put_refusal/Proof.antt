@@ -1,4 +1,6 @@
-use Rattle.characters.proofs.Laws.{number-shown}
+use Rattle.characters.proofs.Laws.{number-most, puts-shown}
+use Prim.Native.Char.{code}
+use native.Mathlib.Omega.{arith}
 use borrow.Author.Needs.{needs}
 use Rattle.characters.proofs.put_refusal.Statement.{statement}
 use Rattle.characters.proofs.put_refusal.Tie as tie
@@ -6,8 +8,8 @@ use Rattle.characters.proofs.put_refusal.Tie as tie
 returns : tie.Need-returns
 returns c =
     let at-numbers = c .before .before .before .before in
-    let put = c .before .before .put-number .ensures in
-    rw (← at-numbers .numbers-of .ensures) (number-shown _ _ _ _ _ (at-numbers .before .before .before .pre) (put .0) (put .1))
+    let start = at-numbers .before .before .before in
+    rw (← at-numbers .numbers-of .ensures) (puts-shown (c .before .before .put-number .ensures) (omega (arith, number-most (code "E") (at-numbers .numbers-of .result .number), start .pre)))
 
 pub put-refusal-spec : {M : Type 1} → statement M
 put-refusal-spec =

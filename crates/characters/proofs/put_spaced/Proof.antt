@@ -16,7 +16,7 @@ returns c =
     let at-decimal = at-put .before .before .before .before in
     let start = at-decimal .before .before in
     let h = spaced-put (start .args .n) (at-decimal .decimal .result .from) (start .args .at) (at-decimal .decimal .result .bytes) (now (start .args .text)) (at-decimal .decimal .ensures) in
-    (h .0, c .before .before .put2 .ensures ∙ (rw (at-put .put .ensures) (h .1)))
+    record { end = h .end; text = c .before .before .put2 .ensures ∙ (rw (at-put .put .ensures) (h .text)) }
 
 pub put-spaced-spec : {M : Type 1} → statement M
 put-spaced-spec =
