@@ -120,3 +120,6 @@ number-most letter n = omega (arith, spaced-most n, length-append (spaced n) (co
 -- what is put at the front, and fits
 pub puts-shown : {l t t′ : List ℕ} {r : ℕ} → Puts l 0 r t t′ → length l ≤ length t → Shows l r t t′
 puts-shown {l} {t} x h = record { count = omega (arith, x .end); text = x .text ∙ sets-front l t h }
+
+pub shows-within : {l t t′ : List ℕ} {n : ℕ} → Shows l n t t′ → n ≤ length t′
+shows-within {l} {t} s = rw (s .text, length-append l (drop (length l) t)) (omega (arith, s .count))
