@@ -1,7 +1,6 @@
 -- Document 01's example and others, computed as one claim on charts, and what they say of an input's bytes.
 use Prim.Native.Nat.{ℕ, _+_}
-use Prim.Native.Char.{code}
-use Prim.Native.String.{String, [] as none, _∷_ as _then_}
+use Prim.Native.String.{String}
 use native.Mathlib.Omega.{arith}
 use mathlib.Core.Path.{_≡_, refl, subst, _∙_}
 use mathlib.Core.Bool.{Bool}
@@ -12,12 +11,8 @@ use Rattle.rules.specs.Basics.{at}
 use Rattle.rules.specs.Bus.{Chart, images, charts}
 use Rattle.laws.proofs.Images.{Holds, step-same}
 use Rattle.rules.proofs.Opened.{opened}
-use Rattle.rules.proofs.Examples.{same, failing, zeros, _from_holds_, state, registers}
+use Rattle.rules.proofs.Examples.{same, said, failing, zeros, _from_holds_, state, registers}
 use Rattle.rules.specs.Text.{digits, each, accessLine, numberLine, recordLine, textOf, printed}
-
-abbrev said : String → List ℕ
-said none = []
-said (c then s) = code c ∷ said s
 
 -- the text for an input of this size, and for one that is whole
 abbrev sized : ℕ → List ℕ → Chart → ℕ → ℕ → String → Bool

@@ -3,7 +3,7 @@ use Prim.Native.Nat.{ℕ, _+_, _%_, _≤_, _^_}
 use native.Mathlib.Omega.{arith}
 use mathlib.Core.Path.{_≡_, refl, sym, ap, _∙_}
 use mathlib.Core.Bool.{Bool, true, false, _&&_}
-use mathlib.Core.List.{List, _++_}
+use mathlib.Core.List.{List, [], _++_}
 use borrow.Author.Tests.{eq-eqb, le-ltb, ltb-false}
 use lib.Dec.{ltb, eqb}
 use lib.ListN.{length}
@@ -39,6 +39,10 @@ becomes r w m =
 none-length : length none ≡ 256
 unfolding none
 none-length = refl
+
+pub nothing : counting Counted none none ≡ countingOf []
+unfolding fed sum none counted
+nothing = refl
 
 -- a block after blocks that are counted
 pub block-counted : (r w m r′ w′ : List ℕ) → counting Counted r′ w′ ≡ fed r w m → counting Counted r′ w′ ≡ onward Counted r w m

@@ -11,7 +11,7 @@ ghost use lib.Dec.{ltb, leb, eqb};
 ghost use lib.ListN.{length};
 ghost use Rattle.rules.specs.Basics.{all, at};
 ghost use Rattle.rules.specs.Answers.{tested};
-ghost use Rattle.rules.specs.Pages.{isRecord, recordsIn, raised, counted, formTests, counting, fed, sum, countingOf};
+ghost use Rattle.rules.specs.Pages.{isRecord, recordsIn, raised, counted, formTests, counting, fed, none, sum, countingOf};
 ghost use Rattle.laws.proofs.Pages.{Bytes};
 ghost use Rattle.pages.specs.Totals.{Counts, totalOf};
 ghost use Rattle.pages.specs.Blocks.{refusedBy, further};
@@ -131,26 +131,29 @@ pub fn feed(reads: &mut [u64; 256], writes: &mut [u64; 256], list: &[u8]) -> Cou
     CountAnswer::Counted
 }
 
+// "starting from all zero"
+fn zeros(answer: CountAnswer) -> Counting
+    ensures { λ r. ⌜ r ≡ counting answer none none ⌝ }
+{
+    Counting {
+        answer: answer,
+        reads: [0; 256],
+        writes: [0; 256],
+    }
+}
+
 // Nothing was fed yet.
 pub fn none() -> Counting
     ensures { λ r. ⌜ r ≡ countingOf [] ⌝ }
 {
-    Counting {
-        answer: CountAnswer::Counted,
-        reads: [0; 256],
-        writes: [0; 256],
-    }
+    zeros(CountAnswer::Counted)
 }
 
 // "the counts stay": all zero, as they were before the list.
 fn refused(e: Refusal) -> Counting
     ensures { λ r. ⌜ r ≡ refusedBy e ⌝ }
 {
-    Counting {
-        answer: CountAnswer::Uncounted(e),
-        reads: [0; 256],
-        writes: [0; 256],
-    }
+    zeros(CountAnswer::Uncounted(e))
 }
 
 // A list that is refused for e so far is refused for what comes before that, where the next block shows it.

@@ -1,5 +1,7 @@
 -- "Starred ones are proved of the rules as one list under a single claim". They are computed on charts; Images.antt carries a step to images.
 use Prim.Native.Nat.{ℕ, suc, _*_, _/_, _%_}
+use Prim.Native.Char.{code}
+use Prim.Native.String.{String, [] as none, _∷_ as _then_}
 use mathlib.Core.Path.{_≡_, refl}
 use mathlib.Core.Bool.{Bool, true, false, _&&_}
 use mathlib.Core.List.{List, [], _∷_}
@@ -17,6 +19,10 @@ same [] [] = true
 same [] (y ∷ ys) = false
 same (x ∷ xs) [] = false
 same (x ∷ xs) (y ∷ ys) = eqb x y && same xs ys
+
+abbrev pub said : String → List ℕ
+said none = []
+said (c then s) = code c ∷ said s
 
 -- the numbers of the tests that fail, counted from n: a refused claim names them
 abbrev pub failing : ℕ → List Bool → List ℕ

@@ -3,3 +3,4 @@ pub mod Table
 pub mod Opened
 pub mod Examples
 pub mod Cases
+pub mod Pages
