@@ -10,5 +10,5 @@ pub mod Runs
 pub mod Restarts
 pub mod Images
 pub mod Texts
-pub mod Pages
+pub mod Counts
 pub mod Goes

@@ -15,7 +15,7 @@ use Rattle.rules.specs.Basics.{if_then_else_, all}
 use Rattle.rules.specs.Answers.{tested}
 use Rattle.rules.specs.Pages.{isRecord, recordsIn, counted, sum, formTests, countTests, counting, fed, none, countingOf}
 use Rattle.laws.proofs.Tests.{and-true, Hold, tested-both}
-use Rattle.laws.proofs.Pages.{Bytes, rest-joined, records-joined, all-joined, fed-counted, joined}
+use Rattle.laws.proofs.Counts.{Bytes, rest-joined, records-joined, all-joined, fed-counted, joined}
 use Rattle.pages.specs.Blocks.{refusedBy, onward, further}
 use Rattle.pages.proofs.Counting.{and-false}
 use Rattle.pages.proofs.Feeding.{malformed, full}

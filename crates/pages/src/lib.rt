@@ -12,7 +12,7 @@ ghost use lib.ListN.{length};
 ghost use Rattle.rules.specs.Basics.{all, at};
 ghost use Rattle.rules.specs.Answers.{tested};
 ghost use Rattle.rules.specs.Pages.{isRecord, recordsIn, raised, counted, formTests, counting, fed, none, sum, countingOf};
-ghost use Rattle.laws.proofs.Pages.{Bytes};
+ghost use Rattle.laws.proofs.Counts.{Bytes};
 ghost use Rattle.pages.specs.Totals.{Counts, totalOf};
 ghost use Rattle.pages.specs.Blocks.{refusedBy, further};
 

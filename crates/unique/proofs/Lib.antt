@@ -4,6 +4,7 @@ pub mod Board
 pub mod BusReads
 pub mod BusWrites
 pub mod Bytes
+pub mod Characters
 pub mod Checks
 pub mod Decode
 pub mod Flags
@@ -13,8 +14,10 @@ pub mod Internal
 pub mod Interrupts
 pub mod Listing
 pub mod Operations
+pub mod Pages
 pub mod Processor
 pub mod Relations
+pub mod Report
 pub mod Restart
 pub mod Run
 pub mod Sequence

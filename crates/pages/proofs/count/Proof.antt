@@ -6,7 +6,7 @@ use mathlib.Core.List.{List}
 use borrow.Author.Needs.{needs}
 use denote.Ref.{now}
 use Rattle.rules.specs.Pages.{pageOf, counted, recordsIn}
-use Rattle.laws.proofs.Pages.{counted-sum}
+use Rattle.laws.proofs.Counts.{counted-sum}
 use Rattle.pages.proofs.Counting.{raises, skips, is-write}
 use Rattle.pages.proofs.count.Statement.{statement}
 use Rattle.pages.proofs.count.Tie as tie
