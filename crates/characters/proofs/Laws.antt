@@ -61,7 +61,8 @@ pub record Spelling (spelt bytes : List ℕ) (p rest : ℕ) : Type 0 where
   pub digits : digits (suc p) rest ++ drop (suc p) bytes ≡ spelt
 
 module _ (spelt bytes : List ℕ) where
-  pub spells-more : (p rest : ℕ) → Spelling spelt bytes p rest → 10 ≤ rest → (p ≡ 0 → ⊥) × Spelling spelt (set bytes p (digit (rest % 10))) (p - 1) (rest / 10)
+  pub spells-more : (p rest : ℕ) → Spelling spelt bytes p rest → 10 ≤ rest →
+      (p ≡ 0 → ⊥) × Spelling spelt (set bytes p (digit (rest % 10))) (p - 1) (rest / 10)
   spells-more zero rest s h = absurd (omega (arith, s .few))
   spells-more (suc p) rest s h =
       let e : suc p - 1 ≡ p = omega arith in

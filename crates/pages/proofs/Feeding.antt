@@ -26,6 +26,7 @@ module _ (r w l : List ℕ) where
       unfolding fed
       full h = rw (eq-eqb (length l % 8) 0 whole, good, h)
 
-      pub taken : ltb (sum r + sum w + recordsIn l) (2 ^ 64) ≡ true → counting Counted (counted 0 r l (recordsIn l)) (counted 1 w l (recordsIn l)) ≡ fed r w l
+      pub taken : ltb (sum r + sum w + recordsIn l) (2 ^ 64) ≡ true →
+          counting Counted (counted 0 r l (recordsIn l)) (counted 1 w l (recordsIn l)) ≡ fed r w l
       unfolding fed
       taken h = rw (eq-eqb (length l % 8) 0 whole, good, h)

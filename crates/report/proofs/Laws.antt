@@ -60,11 +60,12 @@ module _ (reads writes : List ℕ) where
       go true h =
           let same : total ≡ sum reads + sum writes = cc in
           rw (← same)
-          (puts-shown (puts-append a b)
-          (omega (arith, pages-most 256, number-most (code "T") total, length-append (each 256 (trafficLine reads writes)) (numberLine (code "T") total))))
+          (let size = length-append (each 256 (trafficLine reads writes)) (numberLine (code "T") total) in
+          puts-shown (puts-append a b) (omega (arith, pages-most 256, number-most (code "T") total, size)))
       go false h = let z : _≡_ {A = ℕ} 0 1 = cc in absurd (omega arith)
 
-  pub past-shown : (r : ℕ) (t v : List ℕ) → PastAll ≡ totalOf (sum reads + sum writes) → Shows (refusalLine Total) r t v → Shows (reportText Counted reads writes) r t v
+  pub past-shown : (r : ℕ) (t v : List ℕ) → PastAll ≡ totalOf (sum reads + sum writes) → Shows (refusalLine Total) r t v →
+      Shows (reportText Counted reads writes) r t v
   past-shown r t v e s = go (ltb (sum reads + sum writes) (2 ^ 64)) e
     where
       go : (f : Bool) → PastAll ≡ (if f then Sum (sum reads + sum writes) else PastAll) →

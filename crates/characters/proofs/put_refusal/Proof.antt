@@ -9,7 +9,8 @@ returns : tie.Need-returns
 returns c =
     let at-numbers = c .before .before .before .before in
     let start = at-numbers .before .before .before in
-    rw (← at-numbers .numbers-of .ensures) (puts-shown (c .before .before .put-number .ensures) (omega (arith, number-most (code "E") (at-numbers .numbers-of .result .number), start .pre)))
+    let most = number-most (code "E") (at-numbers .numbers-of .result .number) in
+    rw (← at-numbers .numbers-of .ensures) (puts-shown (c .before .before .put-number .ensures) (omega (arith, most, start .pre)))
 
 pub put-refusal-spec : {M : Type 1} → statement M
 put-refusal-spec =

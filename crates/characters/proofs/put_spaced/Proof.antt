@@ -8,15 +8,20 @@ use Rattle.characters.proofs.put_spaced.Tie as tie
 
 part-put-end : tie.Need-part-put-end
 part-put-end c =
-    let at-decimal = c .before .before .before .before .before .before .before .before in omega (arith, at-decimal .decimal .ensures .size)
+    let at-put = c .before .before .before .before in
+    let at-decimal = at-put .before .before .before .before in
+    omega (arith, at-decimal .decimal .ensures .size)
 
 returns : tie.Need-returns
 returns c =
-    let at-put = c .before .before .before .before .before .before .before .before in
+    let at-end = c .before .before in
+    let at-put = at-end .before .before .before .before .before .before in
     let at-decimal = at-put .before .before .before .before in
     let start = at-decimal .before .before in
-    let h = spaced-put (start .args .n) (at-decimal .decimal .result .from) (start .args .at) (at-decimal .decimal .result .bytes) (now (start .args .text)) (at-decimal .decimal .ensures) in
-    record { end = h .end; text = c .before .before .put2 .ensures ∙ (rw (at-put .put .ensures) (h .text)) }
+    let d = at-decimal .decimal in
+    let t = now (start .args .text) in
+    let h = spaced-put (start .args .n) (d .result .from) (start .args .at) (d .result .bytes) t (d .ensures) in
+    record { end = h .end; text = at-end .put2 .ensures ∙ (rw (at-put .put .ensures) (h .text)) }
 
 pub put-spaced-spec : {M : Type 1} → statement M
 put-spaced-spec =

@@ -8,7 +8,8 @@ use Rattle.report.proofs.put_counts.Tie as tie
 put-number-requires : tie.Need-put-number-requires
 put-number-requires c κs =
     let at-pages = c .before .before .before in
-    let start = at-pages .before .before .before .before .before .before .before .before .before in
+    let at-total = at-pages .before .before .before .before .before in
+    let start = at-total .before .before .before .before in
     let most = pages-most (now (start .args .reads)) (now (start .args .writes)) 256 in
     let e = at-pages .put-pages .ensures .end in
     search needs

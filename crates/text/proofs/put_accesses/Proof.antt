@@ -26,9 +26,15 @@ put-requires c κs = rw (c .before .before .before .before .loop .inv .1, length
 
 loop-again : tie.Need-loop-again Inv-loop μ-loop
 loop-again c =
-    let list = now (c .before .before .before .before .before .before .before .before .before .before .args .list) in
-    let k = c .before .before .before .before .before .before .before .loop .k in
-    (omega arith, rw (c .before .before .put .ensures, c .before .before .before .before .line-of .ensures, c .before .before .before .before .before .before .before .loop .inv .1, add-one k) (each-more (lineOf list) k 0 _ _ (omega (arith, each-length (lineOf list) 12 (line-length list) k))))
+    let at-put = c .before .before in
+    let at-line = at-put .before .before in
+    let at-loop = at-line .before .before .before in
+    let list = now (at-loop .before .before .before .args .list) in
+    let k = at-loop .loop .k in
+    let size = each-length (lineOf list) 12 (line-length list) k in (
+      omega arith,
+      rw (at-put .put .ensures, at-line .line-of .ensures, at-loop .loop .inv .1, add-one k) (each-more (lineOf list) k 0 _ _ (omega (arith, size))),
+    )
 
 same-length : tie.Need-same-length Inv-loop μ-loop
 same-length c = rw (c .before .loop .inv .1) (rw length-sets)

@@ -2,10 +2,11 @@ use lib.ListN.{getD}
 use Rattle.rules.specs.Text.{each, hex}
 use Rattle.characters.proofs.Laws.{each-more}
 use Rattle.text.proofs.Laws.{each-length}
-use Prim.Native.Nat.{_-_, _≤_}
+use Prim.Native.Nat.{ℕ, _-_, _≤_}
 use native.Mathlib.Numerals.{add-one}
 use native.Mathlib.Omega.{arith}
 use mathlib.Core.Path.{_≡_, refl}
+use mathlib.Core.List.{List}
 use borrow.Author.Needs.{needs}
 use denote.Ref.{now}
 use lib.Seq.{sets, length-sets}
@@ -27,9 +28,14 @@ put-requires c κs = rw (c .before .before .before .before .before .loop .inv .1
 
 loop-again : tie.Need-loop-again Inv-loop μ-loop
 loop-again c =
-    let state = now (c .before .before .before .before .before .before .before .before .before .before .before .args .state) in
-    let k = c .before .before .before .before .before .before .before .before .loop .k in
-    (omega arith, rw (c .before .before .put .ensures, c .before .before .before .before .hex .ensures, c .before .before .before .before .before .before .before .before .loop .inv .1, add-one) (each-more (λ j. hex (getD state j 0)) k _ _ _ (omega (arith, each-length (λ j. hex (getD state j 0)) 2 (λ j. refl) k))))
+    let at-put = c .before .before in
+    let at-hex = at-put .before .before in
+    let at-loop = at-hex .before .before .before .before in
+    let state = now (at-loop .before .before .before .args .state) in
+    let f : ℕ → List ℕ = λ j. hex (getD state j 0) in
+    let k = at-loop .loop .k in
+    let size = each-length f 2 (λ j. refl) k in
+    (omega arith, rw (at-put .put .ensures, at-hex .hex .ensures, at-loop .loop .inv .1, add-one) (each-more f k _ _ _ (omega (arith, size))))
 
 same-length : tie.Need-same-length Inv-loop μ-loop
 same-length c = rw (c .before .loop .inv .1) (rw length-sets)
