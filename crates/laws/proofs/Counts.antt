@@ -1,23 +1,21 @@
 -- Laws of counting by page: a count is how many records of the list are of its page and kind; all counts together are the number of records;
 -- lists that are fed one after another leave the counts of the joined list.
-use Prim.Native.Nat.{ℕ, zero, suc, _+_, _*_, _/_, _%_, _≤_, _<_, _^_}
+use Prim.Native.Nat.{ℕ, zero, suc, _+_, _*_, _%_, _≤_, _<_}
 use native.Mathlib.Omega.{arith}
 use native.Mathlib.Nat.{le-refl}
 use mathlib.Core.Path.{_≡_, refl, sym, ap, _∙_}
 use mathlib.Core.Bool.{Bool, true, false, _&&_}
 use mathlib.Core.List.{List, [], _∷_, _++_}
 use lib.Dec.{eqb, eqb·zero-suc, eqb·suc-zero, eqb·suc-suc}
-use lib.ListN.{length, set, replicate, length-set, length-append, length-replicate, List·getD-append}
-use lib.Seq.{getD-append-add, getD-set-same, getD-set-other}
+use lib.ListN.{length, set, length-set, length-append, List·getD-append}
+use lib.Seq.{getD-append-add}
 use borrow.Author.Tests.{leb-true, eqb-true}
-use native.Mathlib.Numerals.{add-one}
 use Rattle.rules.specs.Basics.{if_then_else_, all, bit, at}
 use Rattle.rules.specs.declared.Refusal.{Refusal}
-use Rattle.rules.specs.declared.CountAnswer.{CountAnswer}
 use Rattle.rules.specs.declared.CountAnswer.the-variants.{Counted, Uncounted}
 use Rattle.rules.specs.declared.Counting.{Counting}
 use Rattle.rules.specs.Answers.{Test, tested}
-use Rattle.rules.specs.Pages.{pageOf, kindOf, isRecord, raised, counted, sum, recordsIn, countTests, counting, fed, none}
+use Rattle.rules.specs.Pages.{pageOf, kindOf, isRecord, raised, counted, sum, recordsIn, countTests, counting, fed}
 use Rattle.laws.proofs.Tests.{and-left, and-right, and-true, if-case, Hold, tested-case, tested-all}
 
 sum-set : (l : List ℕ) (p v : ℕ) → p < length l → sum (set l p v) + at l p ≡ sum l + v

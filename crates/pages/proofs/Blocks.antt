@@ -2,13 +2,13 @@
 use Prim.Native.Nat.{ℕ, _+_, _%_, _≤_, _^_}
 use native.Mathlib.Omega.{arith}
 use mathlib.Core.Path.{_≡_, refl, sym, ap, _∙_}
-use mathlib.Core.Bool.{Bool, true, false, _&&_}
+use mathlib.Core.Bool.{Bool, true, false}
 use mathlib.Core.List.{List, [], _++_}
 use borrow.Author.Tests.{eq-eqb, le-ltb, ltb-false}
 use lib.Dec.{ltb, eqb}
 use lib.ListN.{length}
 use Rattle.rules.specs.declared.Refusal.{Refusal}
-use Rattle.rules.specs.declared.Refusal.the-variants.{ListLength, ListRecord, Total}
+use Rattle.rules.specs.declared.Refusal.the-variants.{ListRecord, Total}
 use Rattle.rules.specs.declared.CountAnswer.the-variants.{Counted, Uncounted}
 use Rattle.rules.specs.declared.Counting.{Counting}
 use Rattle.rules.specs.Basics.{if_then_else_, all}

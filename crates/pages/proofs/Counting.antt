@@ -2,13 +2,11 @@
 use Prim.Native.Nat.{ℕ, zero, suc, _+_, _-_, _*_, _/_, _%_, _<_, _≤_, _^_}
 use native.Mathlib.Numerals.{add-one}
 use native.Mathlib.Omega.{arith}
-use native.Mathlib.Nat.{le-of-suc-le-suc}
-use native.Mathlib.Decide.{ℕ-discrete, decLe}
+use native.Mathlib.Decide.{decLe}
 use mathlib.Core.Path.{_≡_, refl}
 use mathlib.Core.Bool.{Bool, true, false, _&&_}
 use mathlib.Core.List.{List, [], _∷_}
 use borrow.Author.Tests.{le-leb, lt-leb, lt-ltb, le-ltb, leb-true, ltb-true, ltb-false, eq-eqb, ne-eqb}
-use lib.Arith.{lt-of-le-ne}
 use lib.Dec.{leb, ltb, eqb, eqb·suc-zero}
 use lib.ListN.{length, take}
 use lib.Seq.{take-length}
@@ -32,15 +30,6 @@ one-number a zero zero (suc d) =
 one-number a zero zero zero =
     let e : a + 256 * 0 + 65536 * 0 + 16777216 * 0 ≡ a = omega arith in
     rw (e, and-true (leb a 1), and-true (leb a 1), and-true (leb a 1))
-
--- a test that fails below n
-pub all-fails : (n k : ℕ) (f : ℕ → Bool) → k < n → f k ≡ false → all n f ≡ false
-all-fails zero k f h e = absurd (omega arith)
-all-fails (suc n) k f h e = go (λ l. all-fails n k f l e) (ℕ-discrete k n)
-  where
-    go : (k < n → all n f ≡ false) → Dec (k ≡ n) → all (suc n) f ≡ false
-    go rest (yes p) = rw (← p, e)
-    go rest (no p) = rw (rest (lt-of-le-ne (le-of-suc-le-suc h) p), and-false (f n))
 
 pub sum-more : (l : List ℕ) (k : ℕ) → k < length l → sum (take (suc k) l) ≡ sum (take k l) + at l k
 unfolding sum

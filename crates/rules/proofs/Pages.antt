@@ -2,10 +2,10 @@
 use Prim.Native.Nat.{ℕ, _+_, _-_, _^_}
 use Prim.Native.String.{String}
 use mathlib.Core.Path.{_≡_, refl}
-use mathlib.Core.Bool.{Bool, _&&_}
+use mathlib.Core.Bool.{Bool}
 use mathlib.Core.List.{List, [], _∷_, _++_}
 use lib.Dec.{eqb}
-use lib.ListN.{take, set, replicate}
+use lib.ListN.{take, set}
 use Rattle.rules.specs.declared.Refusal.the-variants.{Total}
 use Rattle.rules.specs.declared.CountAnswer.the-variants.{Counted, Uncounted}
 use Rattle.rules.specs.declared.Counting.{Counting}

@@ -1,16 +1,13 @@
 -- What is put piece by piece stands at the buffer's front.
-use Prim.Native.Nat.{ℕ, _+_, _*_, _/_, _%_, _≤_}
+use Prim.Native.Nat.{ℕ, _+_, _*_, _≤_}
 use native.Mathlib.Omega.{arith}
-use Prim.Native.Char.{code}
 use mathlib.Core.Path.{_≡_, sym, _∙_}
-use mathlib.Core.Bool.{Bool, true, false}
-use mathlib.Core.List.{List, [], _∷_, _++_}
+use mathlib.Core.List.{List, _++_}
 use borrow.Author.Tests.{lt-ltb}
 use lib.Dec.{ltb}
 use lib.ListN.{length, length-append}
-use lib.Seq.{sets, sets-eq}
+use lib.Seq.{sets}
 use Rattle.rules.specs.declared.StepAnswer.the-variants.{Stepped}
-use Rattle.rules.specs.Basics.{if_then_else_}
 use Rattle.rules.specs.Step.{front}
 use Rattle.rules.specs.Text.{digits, each, lineOf, numberLine, countLine, recordLine, stepText}
 use Rattle.characters.specs.Shown.{Shows}

@@ -1,6 +1,5 @@
 -- What `print` answers and leaves in the buffers that it was lent.
 use Prim.Native.Nat.{ℕ}
-use mathlib.Core.Path.{_≡_}
 use mathlib.Core.List.{List, _++_}
 use lib.ListN.{length, take, drop}
 use Rattle.rules.specs.Basics.{at}

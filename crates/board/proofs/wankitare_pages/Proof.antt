@@ -1,4 +1,4 @@
-use mathlib.Core.Path.{sym, ap, _∙_}
+use mathlib.Core.Path.{ap}
 use Rattle.rules.specs.Pages.{pageWords}
 use borrow.Author.Needs.{needs}
 use Rattle.board.proofs.wankitare_pages.Statement.{statement}

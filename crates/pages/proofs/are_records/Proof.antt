@@ -1,49 +1,56 @@
 use Prim.Native.Nat.{ℕ, _≤_, _-_}
 use native.Mathlib.Numerals.{add-one}
 use native.Mathlib.Omega.{arith}
+use mathlib.Core.Logic.{⊎-elim}
 use mathlib.Core.Path.{_≡_, refl, sym, _∙_}
-use mathlib.Core.Bool.{true}
+use mathlib.Core.Bool.{true, false}
 use mathlib.Core.List.{List}
 use borrow.Author.Needs.{needs}
-use borrow.Author.Tests.{not-true, not-false}
+use borrow.Author.Tests.{not-true, not-false, ne-eqb}
 use denote.Ref.{now}
+use lib.Dec.{eqb}
 use Rattle.rules.specs.Basics.{all}
 use Rattle.rules.specs.Pages.{isRecord, recordsIn}
-use Rattle.pages.proofs.Counting.{all-fails}
 use Rattle.pages.proofs.are_records.Statement.{statement}
 use Rattle.pages.proofs.are_records.Tie as tie
 
-record Judged (list : List ℕ) (n k : ℕ) : Type 0 where
+record Judged (list : List ℕ) (n bad k : ℕ) : Type 0 where
   whole : n ≡ recordsIn list
   within : k ≤ n
-  good : all k (isRecord list) ≡ true
+  few : bad ≤ k
+  good : all k (isRecord list) ≡ eqb bad 0
 
 abbrev Inv-loop : tie.InvT-loop
-Inv-loop list n k₀ k = Judged list n k
+Inv-loop list n bad₀ k₀ bad k = Judged list n bad k
 
 abbrev μ-loop : tie.MeasureT-loop
-μ-loop list n k₀ k = n - k
+μ-loop list n bad₀ k₀ bad k = n - k
 
 loop-holds : tie.Need-loop-holds Inv-loop μ-loop
-loop-holds c = record { whole = refl; within = omega arith; good = refl }
-
-returns : tie.Need-returns Inv-loop μ-loop
-returns c =
-    let at-loop = c .before .before .before in
-    let list = now (at-loop .before .before .args .list) in
-    sym
-    (all-fails (recordsIn list) (at-loop .loop .k) (isRecord list) (c .before .before .loop-test .taken)
-    (sym (c .before .is-record .ensures) ∙ not-true _ (c .if1 .taken)))
+loop-holds c = record { whole = refl; within = omega arith; few = omega arith; good = refl }
 
 loop-again : tie.Need-loop-again Inv-loop μ-loop
 loop-again c =
     let at-loop = c .before .before .before in
-    let one : isRecord (now (at-loop .before .before .args .list)) (at-loop .loop .k) ≡ true =
-    sym (c .before .is-record .ensures) ∙ not-false _ (c .if1 .left) in
-    record { whole = refl; within = omega arith; good = rw (add-one, one) (at-loop .loop .inv .good) }
+    let list = now (at-loop .before .before .args .list) in
+    let k = at-loop .loop .k in
+    let inv = at-loop .loop .inv in
+    ⊎-elim
+    (λ a.
+    let one : isRecord list k ≡ false = sym (c .before .is-record .ensures) ∙ not-true _ (a .0 .taken) in
+    record {
+      whole = refl;
+      within = omega arith;
+      few = omega (arith, a .1);
+      good = rw (add-one k, one) (sym (ne-eqb (c .if1 .bad) 0 (λ e. omega (arith, a .1, e))));
+    })
+    (λ a.
+    let one : isRecord list k ≡ true = sym (c .before .is-record .ensures) ∙ not-false _ (a .0 .left) in
+    record { whole = refl; within = omega arith; few = omega (arith, a .1); good = rw (add-one k, one, a .1) (inv .good) })
+    (c .if1 .came)
 
-returns-2 : tie.Need-returns-2 Inv-loop μ-loop
-returns-2 c =
+returns : tie.Need-returns Inv-loop μ-loop
+returns c =
     let at-loop = c .before .loop in
     let list = now (c .before .before .before .args .list) in
     let e : recordsIn list ≡ at-loop .k = omega arith in
@@ -57,8 +64,8 @@ are-records-spec =
     μ-loop
     loop-holds
     (λ c κs. omega arith)
-    returns
+    (λ c. omega arith)
     (λ c. search needs)
     (λ c. search needs)
     loop-again
-    returns-2)
+    returns)

@@ -5,7 +5,6 @@ use mathlib.Core.List.{List}
 use borrow.Author.Needs.{needs}
 use denote.Ref.{now}
 use lib.ListN.{length}
-use lib.Seq.{length-sets}
 use Rattle.rules.specs.Text.{each}
 use Rattle.rules.specs.Pages.{trafficLine}
 use Rattle.characters.specs.Shown.{Puts}
