@@ -13,7 +13,7 @@ use lib.Seq.{take-length}
 use Rattle.rules.specs.Basics.{if_then_else_, all, at}
 use Rattle.rules.specs.Pages.{pageOf, kindOf, isRecord, raised, counted, sum}
 use Rattle.laws.proofs.Tests.{and-true, and-left, all-at}
-use Rattle.pages.specs.declared.Totalled.the-variants.{Sum, PastAll}
+use Rattle.pages.specs.declared.Totalled.the-variants.{Sum, Passed}
 use Rattle.pages.specs.Totals.{totalOf}
 
 pub and-false : (b : Bool) → (b && false) ≡ false
@@ -46,7 +46,7 @@ module _ (high low s : ℕ) (halves : high * 4294967296 + low ≡ s) where
   fits h =
       let e : (high + low / 4294967296) * 4294967296 + low % 4294967296 ≡ s = omega arith in rw (e, lt-ltb s (2 ^ 64) (omega arith))
 
-  pub passes : 4294967296 ≤ high + low / 4294967296 → PastAll ≡ totalOf s
+  pub passes : 4294967296 ≤ high + low / 4294967296 → Passed ≡ totalOf s
   passes h = rw (le-ltb s (2 ^ 64) (omega arith))
 
 -- room for n more, by what the sum is
@@ -57,14 +57,14 @@ room-beside s t n e = go (ltb s (2 ^ 64)) refl e
     with-room h (yes i) = rw (le-leb n (18446744073709551615 - s) i, lt-ltb (s + n) (2 ^ 64) (omega arith))
     with-room h (no i) = rw (lt-leb n (18446744073709551615 - s) (omega arith), le-ltb (s + n) (2 ^ 64) (omega arith))
 
-    go : (b : Bool) → ltb s (2 ^ 64) ≡ b → Sum t ≡ (if b then Sum s else PastAll) → leb n (18446744073709551615 - t) ≡ ltb (s + n) (2 ^ 64)
+    go : (b : Bool) → ltb s (2 ^ 64) ≡ b → Sum t ≡ (if b then Sum s else Passed) → leb n (18446744073709551615 - t) ≡ ltb (s + n) (2 ^ 64)
     go true h i = let same : t ≡ s = cc in rw same (with-room (ltb-true s (2 ^ 64) h) (decLe n (18446744073709551615 - s)))
     go false h i = let z : _≡_ {A = ℕ} 0 1 = cc in absurd (omega arith)
 
-pub no-room : (s n : ℕ) → PastAll ≡ totalOf s → false ≡ ltb (s + n) (2 ^ 64)
+pub no-room : (s n : ℕ) → Passed ≡ totalOf s → false ≡ ltb (s + n) (2 ^ 64)
 no-room s n e = go (ltb s (2 ^ 64)) refl e
   where
-    go : (b : Bool) → ltb s (2 ^ 64) ≡ b → PastAll ≡ (if b then Sum s else PastAll) → false ≡ ltb (s + n) (2 ^ 64)
+    go : (b : Bool) → ltb s (2 ^ 64) ≡ b → Passed ≡ (if b then Sum s else Passed) → false ≡ ltb (s + n) (2 ^ 64)
     go true h i = let z : _≡_ {A = ℕ} 0 1 = cc in absurd (omega arith)
     go false h i = rw (le-ltb (s + n) (2 ^ 64) (omega (arith, ltb-false s (2 ^ 64) h)))
 

@@ -19,10 +19,10 @@ ghost use Rattle.pages.specs.Blocks.{refusedBy, further};
 // 2^32: what the two halves of a 64-bit number are parted by.
 const HALF: u64 = 4294967296;
 
-// All counts together.
+// All counts together, or that they passed 64 bits.
 pub enum Totalled {
     Sum(u64),
-    PastAll,
+    Passed,
 }
 
 // "a record with byte 4 above 1 or bytes 5 to 7 not zero". The four are judged as one number, low byte first: so the compiler reads and
@@ -76,7 +76,7 @@ pub fn total_of(reads: &[u64], writes: &[u64]) -> Totalled
     if top < HALF {
         return Totalled::Sum(top * HALF + low % HALF);
     }
-    Totalled::PastAll
+    Totalled::Passed
 }
 
 // "a total of all counts that would pass 64 bits": whether n more can be counted.
@@ -86,7 +86,7 @@ fn room_for(reads: &[u64], writes: &[u64], n: u64) -> bool
 {
     match total_of(reads, writes) {
         Totalled::Sum(total) => n <= u64::MAX - total,
-        Totalled::PastAll => false,
+        Totalled::Passed => false,
     }
 }
 

@@ -15,7 +15,7 @@ use Rattle.rules.specs.Basics.{if_then_else_, at}
 use Rattle.rules.specs.Text.{hex, spaced, each, numberLine, refusalLine}
 use Rattle.rules.specs.Pages.{sum, pageLine, trafficLine, reportText}
 use Rattle.laws.proofs.Tests.{if-case}
-use Rattle.pages.specs.declared.Totalled.the-variants.{Sum, PastAll}
+use Rattle.pages.specs.declared.Totalled.the-variants.{Sum, Passed}
 use Rattle.pages.specs.Totals.{totalOf}
 use Rattle.characters.specs.Shown.{Puts, Shows}
 use Rattle.characters.proofs.Laws.{spaced-most, number-most, puts-piece, puts-append, puts-shown}
@@ -55,7 +55,7 @@ module _ (reads writes : List ℕ) where
       Puts (each 256 (trafficLine reads writes)) 0 at t u → Puts (numberLine (code "T") total) at r u v → Shows (reportText Counted reads writes) r t v
   counts-shown total at r t u v room e a b = go (ltb (sum reads + sum writes) (2 ^ 64)) e
     where
-      go : (f : Bool) → Sum total ≡ (if f then Sum (sum reads + sum writes) else PastAll) →
+      go : (f : Bool) → Sum total ≡ (if f then Sum (sum reads + sum writes) else Passed) →
           Shows (if f then each 256 (trafficLine reads writes) ++ numberLine (code "T") (sum reads + sum writes) else refusalLine Total) r t v
       go true h =
           let same : total ≡ sum reads + sum writes = cc in
@@ -64,11 +64,11 @@ module _ (reads writes : List ℕ) where
           puts-shown (puts-append a b) (omega (arith, pages-most 256, number-most (code "T") total, size)))
       go false h = let z : _≡_ {A = ℕ} 0 1 = cc in absurd (omega arith)
 
-  pub past-shown : (r : ℕ) (t v : List ℕ) → PastAll ≡ totalOf (sum reads + sum writes) → Shows (refusalLine Total) r t v →
+  pub past-shown : (r : ℕ) (t v : List ℕ) → Passed ≡ totalOf (sum reads + sum writes) → Shows (refusalLine Total) r t v →
       Shows (reportText Counted reads writes) r t v
   past-shown r t v e s = go (ltb (sum reads + sum writes) (2 ^ 64)) e
     where
-      go : (f : Bool) → PastAll ≡ (if f then Sum (sum reads + sum writes) else PastAll) →
+      go : (f : Bool) → Passed ≡ (if f then Sum (sum reads + sum writes) else Passed) →
           Shows (if f then each 256 (trafficLine reads writes) ++ numberLine (code "T") (sum reads + sum writes) else refusalLine Total) r t v
       go true h = let z : _≡_ {A = ℕ} 0 1 = cc in absurd (omega arith)
       go false h = s

@@ -72,7 +72,7 @@ fn put_counts(text: &mut [u8], reads: &[u64], writes: &[u64]) -> usize
             let at = put_pages(text, reads, writes);
             characters::put_number(text, at, b'T', total)
         }
-        Totalled::PastAll => characters::put_refusal(text, Refusal::Total),
+        Totalled::Passed => characters::put_refusal(text, Refusal::Total),
     }
 }
 
