@@ -54,12 +54,14 @@ module _ (κs : Lfts 3) (a : Dens κs kinds.ps) (x : ℕ) (t : AtExit (endedOf 3
       (ap (λ (o : PageWords). o .reads) p ∙ s .0, ap (λ (o : PageWords). o .writes) p ∙ s .1)
 
   -- "their sum is the number of records"
-  pub counted-sum : reads.Post κs a x t → x ≡ 0 → length r ≡ 256 → length w ≡ 256 → Bytes l → sum r′ + sum w′ ≡ sum r + sum w + recordsIn l
+  pub counted-sum : reads.Post κs a x t → x ≡ 0 → length r ≡ 256 → length w ≡ 256 → Bytes l →
+      sum r′ + sum w′ ≡ sum r + sum w + recordsIn l
   counted-sum p h pages pages′ bytes =
       let e = counted (fed r w l .answer) (sym (ap (λ (o : PageWords). o .word) p) ∙ h) in
       rw (ap (λ (o : PageWords). o .reads) p, ap (λ (o : PageWords). o .writes) p) (fed-total r w l pages pages′ bytes e)
 
--- "The counts equal those of the joined list": two calls that answer 0, one after the other, tell and leave what one call on both lists does.
+-- "The counts equal those of the joined list": two calls that answer 0, one after the other, tell and leave what one call on both lists
+-- does.
 pub fed-twice : (r w l m : List ℕ) (o : PageWords) → length r ≡ 256 → length w ≡ 256 → Bytes l → pageWords (fed r w l) .word ≡ 0 →
     o ≡ pageWords (fed (fed r w l .reads) (fed r w l .writes) m) → o .word ≡ 0 → o ≡ pageWords (fed r w (l ++ m))
 fed-twice r w l m o pages pages′ bytes h e z =

@@ -42,7 +42,8 @@ pub digits-most : (k n : ℕ) → length (digits k n) ≤ k
 unfolding digits
 digits-most zero n = omega arith
 digits-most (suc k) n =
-    if-case (λ (l : List ℕ). length l ≤ suc k) (ltb n 10) (digit n ∷ []) (digits k (n / 10) ++ digit (n % 10) ∷ []) (λ h. omega arith)
+    if-case (λ (l : List ℕ). length l ≤ suc k) (ltb n 10) (digit n ∷ []) (digits k (n / 10) ++ digit (n % 10) ∷ [])
+    (λ h. omega arith)
     (λ h. rw (length-append (digits k (n / 10)) (digit (n % 10) ∷ [])) (omega (arith, digits-most k (n / 10))))
 
 two-digits : (k n : ℕ) → 10 ≤ n → digits (suc k) n ≡ digits k (n / 10) ++ digit (n % 10) ∷ []
@@ -76,13 +77,15 @@ module _ (spelt bytes : List ℕ) where
           few = omega (arith, few);
           digits =
               rw (set-before bytes (suc p) (digit (rest % 10)) (omega (arith, s .inside, s .size)))
-              (sym (append-assoc (digits (suc p) (rest / 10)) (digit (rest % 10) ∷ []) (drop (suc (suc p)) bytes)) ∙ (rw (← more) (s .digits)));
+              (sym (append-assoc (digits (suc p) (rest / 10)) (digit (rest % 10) ∷ []) (drop (suc (suc p)) bytes))
+              ∙ (rw (← more) (s .digits)));
         },
       )
 
   pub spells-last : (p rest : ℕ) → Spelling spelt bytes p rest → rest < 10 → drop p (set bytes p (digit rest)) ≡ spelt
   spells-last p rest s h =
-      set-before bytes p (digit rest) (omega (arith, s .inside, s .size)) ∙ ap (λ (l : List ℕ). l ++ drop (suc p) bytes) (sym (one-digit p rest h))
+      set-before bytes p (digit rest) (omega (arith, s .inside, s .size))
+      ∙ ap (λ (l : List ℕ). l ++ drop (suc p) bytes) (sym (one-digit p rest h))
       ∙ s .digits
 
 pub puts-piece : (l : List ℕ) (p : ℕ) {t t′ : List ℕ} → t′ ≡ sets t p l → Puts l p (p + length l) t t′

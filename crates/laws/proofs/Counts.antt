@@ -1,5 +1,5 @@
--- Laws of counting by page: a count is how many records of the list are of its page and kind; all counts together are the number of records;
--- lists that are fed one after another leave the counts of the joined list.
+-- Laws of counting by page: a count is how many records of the list are of its page and kind; all counts together are the number of
+-- records; lists that are fed one after another leave the counts of the joined list.
 use Prim.Native.Nat.{ℕ, zero, suc, _+_, _*_, _%_, _≤_, _<_}
 use native.Mathlib.Omega.{arith}
 use native.Mathlib.Nat.{le-refl}
@@ -144,7 +144,8 @@ module _ (l m : List ℕ) (whole : length l % 8 ≡ 0) where
   all-behind : (n : ℕ) → all (recordsIn l + n) (isRecord (l ++ m)) ≡ (all n (isRecord m) && all (recordsIn l) (isRecord l))
   all-behind zero = let e : recordsIn l + 0 ≡ recordsIn l = omega arith in rw e (all-before (recordsIn l) (le-refl (recordsIn l)))
   all-behind (suc n) =
-      let e : recordsIn l + suc n ≡ suc (recordsIn l + n) = omega arith in rw (e, record-behind n, all-behind n) (and-assoc (isRecord m n) _ _)
+      let e : recordsIn l + suc n ≡ suc (recordsIn l + n) = omega arith in
+      rw (e, record-behind n, all-behind n) (and-assoc (isRecord m n) _ _)
 
   -- the joined list's records are those of both
   pub all-joined : all (recordsIn (l ++ m)) (isRecord (l ++ m)) ≡ (all (recordsIn m) (isRecord m) && all (recordsIn l) (isRecord l))
@@ -178,8 +179,8 @@ module _ (r w l : List ℕ) where
   unfolding fed
   fed-counted hs = tested-all (countTests r w l) (λ e. counting (Uncounted e) r w) _ hs
 
--- "From any number of access lists fed one after another .. The counts equal those of the joined list": where l was counted, the tests of m on what
--- l left are the tests of l ++ m on what was there before l; and so are the counts.
+-- "From any number of access lists fed one after another .. The counts equal those of the joined list": where l was counted, the tests of
+-- m on what l left are the tests of l ++ m on what was there before l; and so are the counts.
 module _ (r w l m : List ℕ) (pages : length r ≡ 256) (pages′ : length w ≡ 256) (bytes : Bytes l) (first : Hold (countTests r w l)) where
   abbrev reads : List ℕ
   reads = counted 0 r l (recordsIn l)

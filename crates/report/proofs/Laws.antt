@@ -30,13 +30,15 @@ page-put page r w p q e t u v x y a b c d =
 page-most : (page r w : ℕ) → length (pageLine page r w) ≤ 45
 unfolding pageLine
 page-most page r w =
-    omega (arith, spaced-most r, spaced-most w, length-append (spaced r ++ spaced w) (code "\n" ∷ []), length-append (spaced r) (spaced w))
+    let two = length-append (spaced r) (spaced w) in
+    omega (arith, spaced-most r, spaced-most w, two, length-append (spaced r ++ spaced w) (code "\n" ∷ []))
 
 module _ (reads writes : List ℕ) where
   traffic-most : (page : ℕ) → length (trafficLine reads writes page) ≤ 45
   traffic-most page =
-      if-case (λ (l : List ℕ). length l ≤ 45) (eqb (at reads page) 0 && eqb (at writes page) 0) [] (pageLine page (at reads page) (at writes page))
-      (λ h. omega arith) (λ h. page-most page (at reads page) (at writes page))
+      let r = at reads page in
+      let w = at writes page in
+      if-case (λ (l : List ℕ). length l ≤ 45) (eqb r 0 && eqb w 0) [] (pageLine page r w) (λ h. omega arith) (λ h. page-most page r w)
 
   pub pages-most : (n : ℕ) → length (each n (trafficLine reads writes)) ≤ n * 45
   unfolding each
@@ -45,18 +47,25 @@ module _ (reads writes : List ℕ) where
       omega (arith, pages-most n, traffic-most n, length-append (each n (trafficLine reads writes)) (trafficLine reads writes n))
 
   -- one page more
-  pub pages-more : (n q r : ℕ) {t u v : List ℕ} → Puts (each n (trafficLine reads writes)) 0 q t u → Puts (trafficLine reads writes n) q r u v →
+  pub pages-more : (n q r : ℕ) {t u v : List ℕ} → Puts (each n (trafficLine reads writes)) 0 q t u →
+      Puts (trafficLine reads writes n) q r u v →
       Puts (each (n + 1) (trafficLine reads writes)) 0 r t v
   unfolding each
   pages-more n q r a b = rw (add-one n) (puts-append a b)
 
+  -- the report, as the test of the total comes out
+  abbrev reported : Bool → List ℕ
+  reported f =
+      if f then each 256 (trafficLine reads writes) ++ numberLine (code "T") (sum reads + sum writes) else refusalLine Total
+
   -- the lines and the total, by what the sum is
   pub counts-shown : (total at r : ℕ) (t u v : List ℕ) → 11543 ≤ length t → Sum total ≡ totalOf (sum reads + sum writes) →
-      Puts (each 256 (trafficLine reads writes)) 0 at t u → Puts (numberLine (code "T") total) at r u v → Shows (reportText Counted reads writes) r t v
+      Puts (each 256 (trafficLine reads writes)) 0 at t u → Puts (numberLine (code "T") total) at r u v →
+      Shows (reportText Counted reads writes) r t v
   counts-shown total at r t u v room e a b = go (ltb (sum reads + sum writes) (2 ^ 64)) e
     where
       go : (f : Bool) → Sum total ≡ (if f then Sum (sum reads + sum writes) else Passed) →
-          Shows (if f then each 256 (trafficLine reads writes) ++ numberLine (code "T") (sum reads + sum writes) else refusalLine Total) r t v
+          Shows (reported f) r t v
       go true h =
           let same : total ≡ sum reads + sum writes = cc in
           rw (← same)
@@ -69,6 +78,6 @@ module _ (reads writes : List ℕ) where
   past-shown r t v e s = go (ltb (sum reads + sum writes) (2 ^ 64)) e
     where
       go : (f : Bool) → Passed ≡ (if f then Sum (sum reads + sum writes) else Passed) →
-          Shows (if f then each 256 (trafficLine reads writes) ++ numberLine (code "T") (sum reads + sum writes) else refusalLine Total) r t v
+          Shows (reported f) r t v
       go true h = let z : _≡_ {A = ℕ} 0 1 = cc in absurd (omega arith)
       go false h = s

@@ -1,5 +1,5 @@
--- Documents 01 and 02 as definitions: what must be believed. Each quotes the sentences that it states; they stand in the order in which they
--- build on each other, beside document 01's sections.
+-- Documents 01 and 02 as definitions: what must be believed. Each quotes the sentences that it states; they stand in the order in which
+-- they build on each other, beside document 01's sections.
 pub mod Basics
 pub mod Cycles
 -- "Opcodes": the flags and the decimal mode, the table, the accesses, what each operation does

@@ -13,8 +13,8 @@ use Rattle.rules.specs.Basics.{if_then_else_, all, at}
 use Rattle.rules.specs.Answers.{Test, _unless_, tested, countWord}
 use Rattle.rules.specs.Text.{hex, spaced, each, numberLine, refusalLine}
 
--- Record k of a list begins at byte 8 * k: "address low, high, selected bank .., value, 0 read or 1 write, three zeros". "On the 6509 banks are
--- ignored."
+-- Record k of a list begins at byte 8 * k: "address low, high, selected bank .., value, 0 read or 1 write, three zeros". "On the 6509
+-- banks are ignored."
 abbrev pub pageOf : List ℕ → ℕ → ℕ
 pageOf l k = at l (8 * k + 1)
 
@@ -29,7 +29,8 @@ isRecord l k = let p = 8 * k in leb (at l (p + 4)) 1 && eqb (at l (p + 5)) 0 && 
 abbrev pub raised : List ℕ → ℕ → List ℕ
 raised counts page = set counts page (at counts page + 1)
 
--- the counts with the accesses of one kind, 0 or 1, among the first n records of a list: "for each of the 256 pages the reads and the writes"
+-- the counts with the accesses of one kind, 0 or 1, among the first n records of a list: "for each of the 256 pages the reads and the
+-- writes"
 unfoldable pub counted : ℕ → List ℕ → List ℕ → ℕ → List ℕ
 counted kind counts l zero = counts
 counted kind counts l (suc n) =

@@ -33,7 +33,8 @@ loop-again c =
     let k = at-loop .loop .k in
     let size = each-length (lineOf list) 12 (line-length list) k in (
       omega arith,
-      rw (at-put .put .ensures, at-line .line-of .ensures, at-loop .loop .inv .1, add-one k) (each-more (lineOf list) k 0 _ _ (omega (arith, size))),
+      rw (at-put .put .ensures, at-line .line-of .ensures, at-loop .loop .inv .1, add-one k)
+          (each-more (lineOf list) k 0 _ _ (omega (arith, size))),
     )
 
 same-length : tie.Need-same-length Inv-loop μ-loop

@@ -34,8 +34,10 @@ loop-again c =
     let state = now (at-loop .before .before .before .args .state) in
     let f : ℕ → List ℕ = λ j. hex (getD state j 0) in
     let k = at-loop .loop .k in
-    let size = each-length f 2 (λ j. refl) k in
-    (omega arith, rw (at-put .put .ensures, at-hex .hex .ensures, at-loop .loop .inv .1, add-one) (each-more f k _ _ _ (omega (arith, size))))
+    let size = each-length f 2 (λ j. refl) k in (
+      omega arith,
+      rw (at-put .put .ensures, at-hex .hex .ensures, at-loop .loop .inv .1, add-one) (each-more f k _ _ _ (omega (arith, size))),
+    )
 
 same-length : tie.Need-same-length Inv-loop μ-loop
 same-length c = rw (c .before .loop .inv .1) (rw length-sets)

@@ -26,8 +26,8 @@ returns c =
     let at-accesses = at-number .before .before .before .before in
     let start = at-accesses .before .before .before .before .before in
     let number = at-number .put-number .ensures in
-    step-shown _ _ _ (now (start .args .list)) _ _ _ _ (start .pre .0 .0) (start .pre .0 .1) (at-accesses .put-accesses .ensures) (number .end)
-    (number .text) (at-record .put-record .ensures)
+    step-shown _ _ _ (now (start .args .list)) _ _ _ _ (start .pre .0 .0) (start .pre .0 .1) (at-accesses .put-accesses .ensures)
+    (number .end) (number .text) (at-record .put-record .ensures)
 
 pub put-step-spec : {M : Type 1} → statement M
 put-step-spec =
