@@ -13,20 +13,20 @@ use Rattle.rules.specs.declared.Instruction.the-variants.{Brk, Jsr}
 use Rattle.rules.specs.Basics.{if_then_else_, at, address, sum16}
 use Rattle.rules.specs.Cycles.{_>>=_}
 use Rattle.rules.specs.Flags.{byteOf}
-use Rattle.rules.specs.Opcodes.{Entry, undefined, alone, byte, word, late, sizeOf, isDefined, ofInstruction, decode}
+use Rattle.rules.specs.Opcodes.{Entry, undefined, alone, byte, word, late, sizeOf, isDefined, instructionOf, decode}
 use Rattle.rules.specs.Operations.{stack, down, withPc, enter, perform, instruction}
 use Rattle.rules.specs.Interrupts.{resOf, nmiOf, irqOf, Event, res, nmi, irq, execute, eventOf, interrupt, reset, cyclesOf}
 use Rattle.rules.specs.Bus.{isProtected, images}
 use Rattle.admission_rules.specs.Admission.{markAt, marksIn, ruleTests, rulesOf}
 use Rattle.admission_rules.specs.Safety.{Stacked, Effect, none, clears, pushes, effectOf, effectAt, Unaltered}
 use Rattle.laws.proofs.Tests.{Hold}
-use Rattle.laws.proofs.Entries.{fetchedBy, of-instruction}
+use Rattle.laws.proofs.Entries.{fetchedBy}
 use Rattle.admission_rules.proofs.Stacks.{lower, Stands, starts, altered, interrupts}
 use Rattle.admission_rules.proofs.Marks.{Admitted}
 use Rattle.admission_rules.proofs.Ends.{End, ends}
 use Rattle.admission_rules.proofs.Places.{Bytes}
 use Rattle.admission_rules.proofs.Plain.{p-byte}
-use Rattle.admission_rules.proofs.Shapes.{gives, decode-gives, decode-late, on-one, made, instruction-ends}
+use Rattle.admission_rules.proofs.Shapes.{gives, decode-gives, decode-late, on-one, instruction-ends}
 use Rattle.admission_rules.proofs.Performs.{Image, Ready, Done, stack-open, stack-page, pushed-image, n, performs, does-jsr}
 
 -- a later byte of an instruction in protected pages is protected too
@@ -48,7 +48,7 @@ module _ (m₀ : List ℕ) (c : ℕ) (map : List ℕ) (ad : Admitted m₀ c map)
 
   -- what the instruction at PC does to the number of bytes on the stack
   abbrev pub effectHere : Cpu → List ℕ → Effect
-  effectHere u m = ofInstruction effectOf none (decode (at m (u .pc))) (at m (sum16 (u .pc) 1)) (at m (sum16 (u .pc) 2))
+  effectHere u m = effectOf (instructionOf (decode (at m (u .pc))) (at m (sum16 (u .pc) 1)) (at m (sum16 (u .pc) 2)))
 
   module _ (u : Cpu) (m : List ℕ) (k : Stacked) (g : Ready m₀ c map ad u m k) where
     abbrev s : Stands map (ad .N) (u .s) (u .p .i) (u .pc) m k
@@ -75,14 +75,14 @@ module _ (m₀ : List ℕ) (c : ℕ) (map : List ℕ) (ad : Admitted m₀ c map)
     entry-here e h d = ap (λ (p : ℕ). decode (at m p)) (sym (s .address)) ∙ ap decode (g .image .code a h) ∙ d
 
     finish : (e : Entry) → decode (at m (u .pc)) ≡ e → isDefined e ≡ true →
-        Done m₀ c map ad (effectOf (made e low high)) (u .s) k (ends c (perform (made e low high) (withPc (sum16 (u .pc) (fetchedBy e)) u)) m) → Executes
+        Done m₀ c map ad (effectOf (instructionOf e low high)) (u .s) k (ends c (perform (instructionOf e low high) (withPc (sum16 (u .pc) (fetchedBy e)) u)) m) → Executes
     finish e d h x =
-        let effect = ap (λ (y : Entry). ofInstruction effectOf none y low high) d ∙ of-instruction effectOf none Brk e low high h in
+        let effect = ap (λ (y : Entry). effectOf (instructionOf y low high)) d in
         record {
           defined = ap isDefined d ∙ h;
           done =
               subst (λ (y : End Cpu). Done m₀ c map ad (effectHere u m) (u .s) k y) (sym (instruction-ends c u m e d h))
-              (subst (λ (y : Effect). Done m₀ c map ad y (u .s) k (ends c (perform (made e low high) (withPc (sum16 (u .pc) (fetchedBy e)) u)) m)) (sym effect) x);
+              (subst (λ (y : Effect). Done m₀ c map ad y (u .s) k (ends c (perform (instructionOf e low high) (withPc (sum16 (u .pc) (fetchedBy e)) u)) m)) (sym effect) x);
         }
 
     -- PC past the whole instruction, as the rules have it
@@ -91,41 +91,38 @@ module _ (m₀ : List ℕ) (c : ℕ) (map : List ℕ) (ad : Admitted m₀ c map)
 
     -- of an instruction that was fetched whole, with the operand x
     whole : (e : Entry) → isProtected c a ≡ true → decode (at m₀ a) ≡ e → isDefined e ≡ true → fetchedBy e ≡ sizeOf e →
-        (wide : Bool) (x : ℕ) → gives wide x (made e low high) ≡ x → x < (if wide then 65536 else 256) →
-        Hold (rulesOf images m₀ c map (s .i) (made e low high)) → Executes
-    whole e h d def size wide x takes small t =
-        let i = made e low high in
+        (wide : Bool) → gives wide low high (instructionOf e low high) ≡ (low, high) →
+        Hold (rulesOf images m₀ c map (s .i) (instructionOf e low high)) → Executes
+    whole e h d def size wide takes t =
+        let i = instructionOf e low high in
         let there = next-is e d ∙ ap (sum16 (u .pc)) (sym size) in
         finish e (entry-here e h d) def
         (subst (λ (p : ℕ). Done m₀ c map ad (effectOf i) (u .s) k (ends c (perform i (withPc p u)) m)) there
-        (performs m₀ c map ad u m k g i wide x takes small t))
+        (performs m₀ c map ad u m k g i wide low high takes (g .image .bytes (sum16 (u .pc) 1)) (g .image .bytes (sum16 (u .pc) 2)) t))
 
     pub executes : Executes
-    unfolding ruleTests
-    executes = let t = ad .rules (s .i) (s .goes .within) in go (decode (at m₀ a)) refl (t .0) (t .1 .0) (t .1 .1 .0) (t .1 .1 .1)
+    unfolding ruleTests rulesOf
+    executes = let t = ad .rules (s .i) (s .goes .within) in go (decode (at m₀ a)) refl (t .0) (t .1 .0) (t .1 .1)
       where
-        go : (e : Entry) → decode (at m₀ a) ≡ e → isProtected c a ≡ true → leb (a + sizeOf e) 65536 ≡ true → isDefined e ≡ true →
-            Hold (ofInstruction (rulesOf images m₀ c map (s .i)) [] e (at m₀ (sum16 a 1)) (at m₀ (sum16 a 2))) → Executes
-        go undefined d h l def t = absurd (false≢true def)
-        go (alone i) d h l def t = whole (alone i) h d def refl false 0 (rw d at (decode-gives (at m₀ a) 0)) (omega arith) t
-        go (byte f) d h l def t =
+        go : (e : Entry) → decode (at m₀ a) ≡ e → isProtected c a ≡ true → leb (a + sizeOf e) 65536 ≡ true →
+            Hold (rulesOf images m₀ c map (s .i) (instructionOf e (at m₀ (sum16 a 1)) (at m₀ (sum16 a 2)))) → Executes
+        go undefined d h l t = absurd (false≢true (t .0))
+        go (alone i) d h l t = whole (alone i) h d refl refl false (rw d at (decode-gives (at m₀ a) low high)) t
+        go (byte f) d h l t =
             let same = code-here h 1 (omega (arith, leb-true (a + 2) 65536 l)) in
-            whole (byte f) h d def refl false low (rw d at (decode-gives (at m₀ a) low)) (g .image .bytes (sum16 (u .pc) 1)) (rw same t)
-        go (word f) d h l def t =
-            let n₁ = g .image .bytes (sum16 (u .pc) 1) in
-            let n₂ = g .image .bytes (sum16 (u .pc) 2) in
+            whole (byte f) h d refl refl false (rw d at (decode-gives (at m₀ a) low high)) (rw same t)
+        go (word f) d h l t =
             let same₁ = code-here h 1 (omega (arith, leb-true (a + 3) 65536 l)) in
             let same₂ = code-here h 2 (omega (arith, leb-true (a + 3) 65536 l)) in
-            let x = address low high in
-            whole (word f) h d def refl true x (rw d at (decode-gives (at m₀ a) x)) (omega arith) (rw (same₁, same₂) t)
-        go (late f) d h l def t =
+            whole (word f) h d refl refl true (rw d at (decode-gives (at m₀ a) low high)) (rw (same₁, same₂) t)
+        go (late f) d h l t =
             let call : f low ≡ Jsr low = rw d at (decode-late (at m₀ a) low) in
             let same = code-here h 1 (omega (arith, leb-true (a + 3) 65536 l)) in
             let p = sum16 (u .pc) 2 in
             let past = on-one (u .pc) 2 ∙ sym (next-is (late f) d) in
             let code = ap (λ (q : ℕ). isProtected c (sum16 q 2)) (sym (s .address)) ∙ protected-on c a 2 h (omega (arith, leb-true (a + 3) 65536 l)) in
             let second = ap (λ (q : ℕ). at m₀ (sum16 q 2)) (sym (s .address)) ∙ ap (at m₀) (sym (on-one a 1)) in
-            finish (late f) (entry-here (late f) h d) def
+            finish (late f) (entry-here (late f) h d) refl
             (subst (λ (i : Instruction). Done m₀ c map ad (effectOf i) (u .s) k (ends c (perform i (withPc p u)) m)) (sym call)
             (does-jsr m₀ c map ad u m k g low p (omega arith) past code (rw (same, second))
             (subst (λ (i : Instruction). Hold (rulesOf images m₀ c map (s .i) i)) (ap f (sym same) ∙ call) t)))

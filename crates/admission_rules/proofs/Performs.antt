@@ -1,5 +1,5 @@
 -- Each instruction of an admitted image, as its rules let it stand in the map, leaves the stack as the map says.
-use Prim.Native.Nat.{ℕ, _+_, _-_, _/_, _%_, _<_, _≤_}
+use Prim.Native.Nat.{ℕ, suc, _+_, _-_, _/_, _%_, _<_, _≤_}
 use native.Mathlib.Omega.{arith}
 use mathlib.Core.Path.{_≡_, refl, sym, ap, _∙_}
 use mathlib.Core.Bool.{Bool, true, false, false≢true}
@@ -17,7 +17,7 @@ use Rattle.rules.specs.declared.Internal.{Internal}
 use Rattle.rules.specs.declared.Condition.{Condition}
 use Rattle.rules.specs.declared.Stacking.the-variants.{Php, Plp, Pha, Pla, Rts, Rti}
 use Rattle.rules.specs.declared.Instruction.{Instruction}
-use Rattle.rules.specs.declared.Instruction.the-variants.{Read, Store, Change, Accumulator, Implied, AtStack, Branch, Jump, JumpIndirect, Jsr, Brk, Txs, Cli}
+use Rattle.rules.specs.declared.Instruction.the-variants.{Read, Store, Change, Accumulator, Implied, AtStack, Branch, Jump, JumpIndirect, Jsr, Brk, Txs, Cli, Undefined}
 use Rattle.rules.specs.Basics.{if_then_else_, at, address, sum8, sum16}
 use Rattle.rules.specs.Cycles.{Cycles, _>>=_}
 use Rattle.rules.specs.Flags.{byteOf4, flagsOf}
@@ -179,9 +179,9 @@ module _ (m₀ : List ℕ) (c : ℕ) (map : List ℕ) (ad : Admitted m₀ c map)
         (λ h y q. if-case (Calm Lands) (eqb (to / 256) (n / 256)) _ _ (λ e. there to f) (λ e z r. there to f))
         (λ h. there n (follows n (t .0))))
 
-    does-jump : (a : ℕ) → Rules (Jump a) → Does (Jump a)
+    does-jump : (low high : ℕ) → Rules (Jump low high) → Does (Jump low high)
     unfolding rulesOf perform
-    does-jump a t = calm-done _ (there a (follows a (t .0)))
+    does-jump low high t = let a = address low high in calm-done _ (there a (follows a (t .0)))
 
     -- one more on the stack: PHA, PHP
     does-push : (x : ℕ) → x < 256 → Leads map n (mark .kind) (mark .height + 1) 1 (mark .need) → Done (pushes 1) (u .s) k (ends c (push x w) m)
@@ -315,23 +315,24 @@ module _ (m₀ : List ℕ) (c : ℕ) (map : List ℕ) (ad : Admitted m₀ c map)
         })
 
     -- an instruction that was fetched whole
-    pub performs : (i : Instruction) (wide : Bool) (x : ℕ) → gives wide x i ≡ x → x < (if wide then 65536 else 256) → Rules i → Does i
+    pub performs : (i : Instruction) (wide : Bool) (l h : ℕ) → gives wide l h i ≡ (l, h) → l < 256 → h < 256 → Rules i → Does i
     unfolding rulesOf perform
-    performs (Read o d) wide x e h t = does-read o d (small wide x d e h) t
-    performs (Store o d) wide x e h t = does-store o d (small wide x d e h) t
-    performs (Change o d) wide x e h t = does-change o d (small wide x d e h) t
-    performs (Accumulator o) wide x e h t = does-accumulator o t
-    performs (Implied o) wide x e h t = does-implied o t
-    performs (AtStack Php) wide x e h t = does-push (byteOf4 (u .p)) (p-byte (u .p)) (leads-to map n (mark .kind) (mark .height + 1) 1 (mark .need) (t .0))
-    performs (AtStack Plp) wide x e h t = absurd (false≢true (t .0))
-    performs (AtStack Pha) wide x e h t = does-push (u .a) (g .registers .a) (leads-to map n (mark .kind) (mark .height + 1) 1 (mark .need) (t .0))
-    performs (AtStack Pla) wide x e h t = does-pla t
-    performs (AtStack Rts) wide x e h t = does-rts t
-    performs (AtStack Rti) wide x e h t = does-rti t
-    performs (Branch y o) wide x e h t = does-branch y o t
-    performs (Jump a) wide x e h t = does-jump a t
-    performs (JumpIndirect a) wide x e h t = absurd (false≢true (t .0))
-    performs (Jsr low) wide x e h t = absurd (omega arith)
-    performs Brk wide x e h t = absurd (false≢true (t .0))
-    performs Txs wide x e h t = does-txs t
-    performs Cli wide x e h t = does-cli t
+    performs (Read o d) wide l h e b b′ t = does-read o d (small wide l h d e b b′) t
+    performs (Store o d) wide l h e b b′ t = does-store o d (small wide l h d e b b′) t
+    performs (Change o d) wide l h e b b′ t = does-change o d (small wide l h d e b b′) t
+    performs (Accumulator o) wide l h e b b′ t = does-accumulator o t
+    performs (Implied o) wide l h e b b′ t = does-implied o t
+    performs (AtStack Php) wide l h e b b′ t = does-push (byteOf4 (u .p)) (p-byte (u .p)) (leads-to map n (mark .kind) (mark .height + 1) 1 (mark .need) (t .0))
+    performs (AtStack Plp) wide l h e b b′ t = absurd (false≢true (t .0))
+    performs (AtStack Pha) wide l h e b b′ t = does-push (u .a) (g .registers .a) (leads-to map n (mark .kind) (mark .height + 1) 1 (mark .need) (t .0))
+    performs (AtStack Pla) wide l h e b b′ t = does-pla t
+    performs (AtStack Rts) wide l h e b b′ t = does-rts t
+    performs (AtStack Rti) wide l h e b b′ t = does-rti t
+    performs (Branch y o) wide l h e b b′ t = does-branch y o t
+    performs (Jump low high) wide l h e b b′ t = does-jump low high t
+    performs (JumpIndirect low high) wide l h e b b′ t = absurd (false≢true (t .0))
+    performs (Jsr low) wide l h e b b′ t = let z : suc l ≡ l = ap (λ (q : ℕ × ℕ). q .0) e in absurd (omega arith)
+    performs Brk wide l h e b b′ t = absurd (false≢true (t .0))
+    performs Txs wide l h e b b′ t = does-txs t
+    performs Cli wide l h e b b′ t = does-cli t
+    performs Undefined wide l h e b b′ t = absurd (false≢true (t .0))

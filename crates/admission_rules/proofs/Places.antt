@@ -9,10 +9,10 @@ use lib.Dec.{leb}
 use Rattle.rules.specs.declared.Cpu.{Cpu}
 use Rattle.rules.specs.declared.Mode.{Mode}
 use Rattle.rules.specs.declared.Mode.the-variants.{Immediate, Zero, ZeroX, ZeroY, Absolute, AbsoluteX, AbsoluteY, IndirectX, IndirectY, IndirectBankY}
-use Rattle.rules.specs.Basics.{sum16}
+use Rattle.rules.specs.Basics.{address, sum16}
 use Rattle.rules.specs.Cycles.{Bank, execution, indirect, _>>=_}
 use Rattle.rules.specs.Addressing.{load, place, pointer, zeroIndexed, indexed, crosses, loadIndexed}
-use Rattle.admission_rules.specs.Admission.{storeTests}
+use Rattle.admission_rules.specs.Admission.{outside, storeTests}
 use Rattle.laws.proofs.Tests.{Hold, if-case}
 use Rattle.admission_rules.proofs.Calm.{OffPage, Calm}
 
@@ -22,9 +22,9 @@ Small (Immediate v) = v < 256
 Small (Zero z) = z < 256
 Small (ZeroX z) = Unit {0}
 Small (ZeroY z) = Unit {0}
-Small (Absolute a) = Unit {0}
-Small (AbsoluteX a) = a < 65536
-Small (AbsoluteY a) = a < 65536
+Small (Absolute low high) = Unit {0}
+Small (AbsoluteX low high) = address low high < 65536
+Small (AbsoluteY low high) = address low high < 65536
 Small (IndirectX z) = Unit {0}
 Small (IndirectY z) = Unit {0}
 Small (IndirectBankY z) = Unit {0}
@@ -46,22 +46,22 @@ load-calm c (Immediate v) h = h
 load-calm c (Zero z) h = λ v n. n
 load-calm c (ZeroX z) h = λ u o v n. n
 load-calm c (ZeroY z) h = λ u o v n. n
-load-calm c (Absolute a) h = λ v n. n
-load-calm c (AbsoluteX a) h = indexed-calm execution a (c .x)
-load-calm c (AbsoluteY a) h = indexed-calm execution a (c .y)
+load-calm c (Absolute low high) h = λ v n. n
+load-calm c (AbsoluteX low high) h = indexed-calm execution (address low high) (c .x)
+load-calm c (AbsoluteY low high) h = indexed-calm execution (address low high) (c .y)
 load-calm c (IndirectX z) h = λ u o low n high n′ v n″. n″
 load-calm c (IndirectY z) h = λ low n high n′. indexed-calm execution _ (c .y)
 load-calm c (IndirectBankY z) h = λ low n high n′. indexed-calm indirect _ (c .y)
 
-outside : (l a h : ℕ) → not (leb l a && leb a h) ≡ true → l ≤ a → a ≤ h → ⊥
-outside l a h t p q = false≢true (rw (le-leb l a p, le-leb a h q) at t)
+not-within : (l a h : ℕ) → not (leb l a && leb a h) ≡ true → l ≤ a → a ≤ h → ⊥
+not-within l a h t p q = false≢true (rw (le-leb l a p, le-leb a h q) at t)
 
 -- from a base outside 0001 to 01FF, no index leads to the stack page
-base-off : (a i : ℕ) → a < 65536 → i < 256 → not (leb 0x0001 a && leb a 0x01FF) ≡ true → OffPage (sum16 a i)
+base-off : (a i : ℕ) → a < 65536 → i < 256 → outside 0x0001 a ≡ true → OffPage (sum16 a i)
 base-off a i ha hi t e = go (decLe 1 a) (decLe a 511) (decLe 65536 (a + i))
   where
     go : Dec (1 ≤ a) → Dec (a ≤ 511) → Dec (65536 ≤ a + i) → ⊥
-    go (yes p) (yes q) d = outside 1 a 511 t p q
+    go (yes p) (yes q) d = not-within 1 a 511 t p q
     go (no p) q d = omega arith
     go (yes p) (no q) (yes d) = omega arith
     go (yes p) (no q) (no d) = omega arith
@@ -73,9 +73,9 @@ place-calm i c (Immediate v) b h t = λ e. omega arith
 place-calm i c (Zero z) b h t = λ e. omega arith
 place-calm i c (ZeroX z) b h t = λ u o e. omega arith
 place-calm i c (ZeroY z) b h t = λ u o e. omega arith
-place-calm i c (Absolute a) b h t = λ e. outside 256 a 511 (t .0) (omega arith) (omega arith)
-place-calm i c (AbsoluteX a) b h t = λ u o. base-off a (c .x) h (b .x) (t .0)
-place-calm i c (AbsoluteY a) b h t = λ u o. base-off a (c .y) h (b .y) (t .0)
+place-calm i c (Absolute low high) b h t = λ e. not-within 256 (address low high) 511 (t .0) (omega arith) (omega arith)
+place-calm i c (AbsoluteX low high) b h t = λ u o. base-off (address low high) (c .x) h (b .x) (t .0)
+place-calm i c (AbsoluteY low high) b h t = λ u o. base-off (address low high) (c .y) h (b .y) (t .0)
 place-calm i c (IndirectX z) b h t = absurd (false≢true (t .0))
 place-calm i c (IndirectY z) b h t = absurd (false≢true (t .0))
 place-calm i c (IndirectBankY z) b h t = absurd (false≢true (t .0))

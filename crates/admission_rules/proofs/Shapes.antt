@@ -10,53 +10,54 @@ use Rattle.rules.specs.declared.Cpu.{Cpu}
 use Rattle.rules.specs.declared.Mode.{Mode}
 use Rattle.rules.specs.declared.Mode.the-variants.{Immediate, Zero, ZeroX, ZeroY, Absolute, AbsoluteX, AbsoluteY, IndirectX, IndirectY, IndirectBankY}
 use Rattle.rules.specs.declared.Instruction.{Instruction}
-use Rattle.rules.specs.declared.Instruction.the-variants.{Read, Store, Change, Accumulator, Implied, AtStack, Branch, Jump, JumpIndirect, Jsr, Brk, Txs, Cli}
-use Rattle.rules.specs.Basics.{if_then_else_, at, sum16}
+use Rattle.rules.specs.declared.Instruction.the-variants.{Read, Store, Change, Accumulator, Implied, AtStack, Branch, Jump, JumpIndirect, Jsr, Brk, Txs, Cli, Undefined}
+use Rattle.rules.specs.Basics.{if_then_else_, at, address, sum16}
 use Rattle.rules.specs.Cycles.{_>>=_}
-use Rattle.rules.specs.Opcodes.{Entry, undefined, alone, byte, word, late, Row, rows, among, decode, isDefined, ofInstruction}
+use Rattle.rules.specs.Opcodes.{Entry, undefined, alone, byte, word, late, Row, rows, among, decode, isDefined, instructionOf}
 use Rattle.rules.specs.Operations.{withPc, perform, operate, instruction, next}
 use Rattle.laws.proofs.Tests.{if-case}
 use Rattle.laws.proofs.Entries.{fetchedBy}
 use Rattle.admission_rules.proofs.Ends.{ends}
 use Rattle.admission_rules.proofs.Places.{Small}
 
--- That entries take their operands rightly is said by equations, so that it is computed of all rows at once: what an instruction made of the
--- operand v gives back is v, which is its operand where the operand's size matters, and one more where something is wrong. An address (wide)
--- is no data and no address of page zero, and JSR is late.
+-- That entries take their operands rightly is said by equations, so that it is computed of all rows at once: what an instruction made of low
+-- and high gives back is both, which are its operand where the operand's size matters, and one more where something is wrong. An address
+-- (wide) is no data and no address of page zero, and JSR is late.
 
-abbrev pub modeGives : Bool → ℕ → Mode → ℕ
-modeGives wide v (Immediate w) = if wide then suc v else w
-modeGives wide v (Zero w) = if wide then suc v else w
-modeGives wide v (ZeroX w) = v
-modeGives wide v (ZeroY w) = v
-modeGives wide v (Absolute w) = v
-modeGives wide v (AbsoluteX w) = w
-modeGives wide v (AbsoluteY w) = w
-modeGives wide v (IndirectX w) = v
-modeGives wide v (IndirectY w) = v
-modeGives wide v (IndirectBankY w) = v
+abbrev pub modeGives : Bool → ℕ → ℕ → Mode → ℕ × ℕ
+modeGives wide low high (Immediate v) = (if wide then suc low else v, high)
+modeGives wide low high (Zero z) = (if wide then suc low else z, high)
+modeGives wide low high (ZeroX z) = (low, high)
+modeGives wide low high (ZeroY z) = (low, high)
+modeGives wide low high (Absolute l h) = (low, high)
+modeGives wide low high (AbsoluteX l h) = (l, h)
+modeGives wide low high (AbsoluteY l h) = (l, h)
+modeGives wide low high (IndirectX z) = (low, high)
+modeGives wide low high (IndirectY z) = (low, high)
+modeGives wide low high (IndirectBankY z) = (low, high)
 
-abbrev pub gives : Bool → ℕ → Instruction → ℕ
-gives wide v (Read o d) = modeGives wide v d
-gives wide v (Store o d) = modeGives wide v d
-gives wide v (Change o d) = modeGives wide v d
-gives wide v (Accumulator o) = v
-gives wide v (Implied o) = v
-gives wide v (AtStack o) = v
-gives wide v (Branch t o) = v
-gives wide v (Jump a) = v
-gives wide v (JumpIndirect a) = v
-gives wide v (Jsr low) = suc v
-gives wide v Brk = v
-gives wide v Txs = v
-gives wide v Cli = v
+abbrev pub gives : Bool → ℕ → ℕ → Instruction → ℕ × ℕ
+gives wide low high (Read o d) = modeGives wide low high d
+gives wide low high (Store o d) = modeGives wide low high d
+gives wide low high (Change o d) = modeGives wide low high d
+gives wide low high (Accumulator o) = (low, high)
+gives wide low high (Implied o) = (low, high)
+gives wide low high (AtStack o) = (low, high)
+gives wide low high (Branch t o) = (low, high)
+gives wide low high (Jump l h) = (low, high)
+gives wide low high (JumpIndirect l h) = (low, high)
+gives wide low high (Jsr l) = (suc low, high)
+gives wide low high Brk = (low, high)
+gives wide low high Txs = (low, high)
+gives wide low high Cli = (low, high)
+gives wide low high Undefined = (low, high)
 
-abbrev pub entryGives : ℕ → Entry → ℕ
-entryGives v undefined = v
-entryGives v (alone i) = gives false v i
-entryGives v (byte f) = gives false v (f v)
-entryGives v (word f) = gives true v (f v)
-entryGives v (late f) = v
+abbrev pub entryGives : ℕ → ℕ → Entry → ℕ × ℕ
+entryGives low high undefined = (low, high)
+entryGives low high (alone i) = gives false low high i
+entryGives low high (byte f) = gives false low high (f low)
+entryGives low high (word f) = gives true low high (f low high)
+entryGives low high (late f) = (low, high)
 
 -- what is late is JSR
 abbrev pub lateGives : ℕ → Entry → Instruction
@@ -78,41 +79,43 @@ module _ {A : Type 0} (f : Entry → A) (x : A) where
       if-case (λ (e : Entry). f e ≡ x) (eqb n (r .opcode)) _ _ (λ e. ap (λ (y : List A). getD y 0 x) h)
       (λ e. among-gives u l n k (ap (drop 1) h))
 
-pub decode-gives : (n v : ℕ) → entryGives v (decode n) ≡ v
+pub decode-gives : (n low high : ℕ) → entryGives low high (decode n) ≡ (low, high)
 unfolding decode
-decode-gives n v = among-gives (entryGives v) v refl rows n 151 refl
+decode-gives n low high = among-gives (entryGives low high) (low, high) refl rows n 151 refl
 
 pub decode-late : (n v : ℕ) → lateGives v (decode n) ≡ Jsr v
 unfolding decode
 decode-late n v = among-gives (lateGives v) (Jsr v) refl rows n 151 refl
 
--- so the size of an operand is its mode's
-pub small : (wide : Bool) (v : ℕ) (d : Mode) → modeGives wide v d ≡ v → v < (if wide then 65536 else 256) → Small d
-small true v (Immediate w) h n = absurd (omega arith)
-small false v (Immediate w) h n = omega arith
-small true v (Zero w) h n = absurd (omega arith)
-small false v (Zero w) h n = omega arith
-small wide v (ZeroX w) h n = tt
-small wide v (ZeroY w) h n = tt
-small wide v (Absolute w) h n = tt
-small true v (AbsoluteX w) h n = omega arith
-small false v (AbsoluteX w) h n = omega arith
-small true v (AbsoluteY w) h n = omega arith
-small false v (AbsoluteY w) h n = omega arith
-small wide v (IndirectX w) h n = tt
-small wide v (IndirectY w) h n = tt
-small wide v (IndirectBankY w) h n = tt
+narrow : (wide : Bool) (low v high : ℕ) → _≡_ {A = ℕ × ℕ} (if wide then suc low else v, high) (low, high) → low < 256 → v < 256
+narrow true low v high e l = let z : suc low ≡ low = ap (λ (q : ℕ × ℕ). q .0) e in absurd (omega arith)
+narrow false low v high e l = let z : v ≡ low = ap (λ (q : ℕ × ℕ). q .0) e in omega arith
 
--- the instruction that an entry makes of the two bytes after the opcode
-abbrev pub made : Entry → ℕ → ℕ → Instruction
-made e low high = ofInstruction (λ i. i) Brk e low high
+whole : (a b low high : ℕ) → _≡_ {A = ℕ × ℕ} (a, b) (low, high) → low < 256 → high < 256 → address a b < 65536
+whole a b low high e l h =
+    let x : a ≡ low = ap (λ (q : ℕ × ℕ). q .0) e in
+    let y : b ≡ high = ap (λ (q : ℕ × ℕ). q .1) e in
+    omega arith
+
+-- so the size of an operand is its mode's
+pub small : (wide : Bool) (low high : ℕ) (d : Mode) → modeGives wide low high d ≡ (low, high) → low < 256 → high < 256 → Small d
+small wide low high (Immediate v) e l h = narrow wide low v high e l
+small wide low high (Zero z) e l h = narrow wide low z high e l
+small wide low high (ZeroX z) e l h = tt
+small wide low high (ZeroY z) e l h = tt
+small wide low high (Absolute a b) e l h = tt
+small wide low high (AbsoluteX a b) e l h = whole a b low high e l h
+small wide low high (AbsoluteY a b) e l h = whole a b low high e l h
+small wide low high (IndirectX z) e l h = tt
+small wide low high (IndirectY z) e l h = tt
+small wide low high (IndirectBankY z) e l h = tt
 
 pub on-one : (p k : ℕ) → sum16 (sum16 p k) 1 ≡ sum16 p (suc k)
 on-one p k = omega arith
 
 operate-ends : (c : ℕ) (u : Cpu) (m : List ℕ) (e : Entry) → isDefined e ≡ true →
     ends c (operate e (next u)) m ≡
-    ends c (perform (made e (at m (sum16 (u .pc) 1)) (at m (sum16 (u .pc) 2))) (withPc (sum16 (u .pc) (fetchedBy e)) u)) m
+    ends c (perform (instructionOf e (at m (sum16 (u .pc) 1)) (at m (sum16 (u .pc) 2))) (withPc (sum16 (u .pc) (fetchedBy e)) u)) m
 unfolding operate ends _>>=_
 operate-ends c u m undefined h = absurd (false≢true h)
 operate-ends c u m (alone i) h = refl
@@ -123,6 +126,6 @@ operate-ends c u m (late f) h = rw (on-one (u .pc) 1)
 -- the instruction at PC ends as what it was made into
 pub instruction-ends : (c : ℕ) (u : Cpu) (m : List ℕ) (e : Entry) → decode (at m (u .pc)) ≡ e → isDefined e ≡ true →
     ends c (instruction u) m ≡
-    ends c (perform (made e (at m (sum16 (u .pc) 1)) (at m (sum16 (u .pc) 2))) (withPc (sum16 (u .pc) (fetchedBy e)) u)) m
+    ends c (perform (instructionOf e (at m (sum16 (u .pc) 1)) (at m (sum16 (u .pc) 2))) (withPc (sum16 (u .pc) (fetchedBy e)) u)) m
 unfolding instruction ends _>>=_
 instruction-ends c u m e d h = ap (λ (x : Entry). ends c (operate x (next u)) m) d ∙ operate-ends c u m e h

@@ -8,12 +8,12 @@ use Rattle.rules.specs.declared.Mode.{Mode}
 use Rattle.rules.specs.declared.Mode.the-variants.{Immediate, Zero, ZeroX, ZeroY, Absolute, AbsoluteX, AbsoluteY, IndirectX, IndirectY, IndirectBankY}
 use Rattle.rules.specs.declared.Stacking.the-variants.{Php, Plp, Pha, Pla, Rts, Rti}
 use Rattle.rules.specs.declared.Instruction.{Instruction}
-use Rattle.rules.specs.declared.Instruction.the-variants.{Read, Store, Change, Accumulator, Implied, AtStack, Branch, Jump, JumpIndirect, Jsr, Brk, Txs, Cli}
+use Rattle.rules.specs.declared.Instruction.the-variants.{Read, Store, Change, Accumulator, Implied, AtStack, Branch, Jump, JumpIndirect, Jsr, Brk, Txs, Cli, Undefined}
 use Rattle.rules.specs.declared.Refusal.the-variants.{Admission, MapRecord, Vectors, Place, StoreAddress, Stack, Successor}
 use Rattle.rules.specs.declared.Verdict.{Verdict}
 use Rattle.rules.specs.declared.Verdict.the-variants.{Accepted, Barred}
 use Rattle.rules.specs.Basics.{at, address, sum16}
-use Rattle.rules.specs.Opcodes.{Entry, decode, sizeOf, isDefined, ofInstruction}
+use Rattle.rules.specs.Opcodes.{Entry, decode, sizeOf, instructionOf}
 use Rattle.rules.specs.Operations.{target}
 use Rattle.rules.specs.Bus.{isProtected, Memory}
 use Rattle.rules.specs.Answers.{Test, _unless_, tested}
@@ -75,15 +75,19 @@ formTests map i =
     MapRecord i unless (eqb (at map (8 * i + 5)) 0 && eqb (at map (8 * i + 6)) 0 && eqb (at map (8 * i + 7)) 0) ∷
     MapRecord i unless ascends map i ∷ []
 
+-- an address that is not from this one to 01FF
+abbrev pub outside : ℕ → ℕ → Bool
+outside least a = not (leb least a && leb a 0x01FF)
+
 -- "Stores, shifts, INC, DEC: absolute address not 0100 to 01FF; a,X or a,Y base not 0001 to 01FF"; "not .. 81, 91"
 abbrev pub storeTests : ℕ → Mode → List Test
 storeTests i (Immediate v) = []
 storeTests i (Zero z) = []
 storeTests i (ZeroX z) = []
 storeTests i (ZeroY z) = []
-storeTests i (Absolute a) = StoreAddress i unless not (leb 0x0100 a && leb a 0x01FF) ∷ []
-storeTests i (AbsoluteX a) = StoreAddress i unless not (leb 0x0001 a && leb a 0x01FF) ∷ []
-storeTests i (AbsoluteY a) = StoreAddress i unless not (leb 0x0001 a && leb a 0x01FF) ∷ []
+storeTests i (Absolute low high) = StoreAddress i unless outside 0x0100 (address low high) ∷ []
+storeTests i (AbsoluteX low high) = StoreAddress i unless outside 0x0001 (address low high) ∷ []
+storeTests i (AbsoluteY low high) = StoreAddress i unless outside 0x0001 (address low high) ∷ []
 storeTests i (IndirectX z) = Place i unless false ∷ []
 storeTests i (IndirectY z) = Place i unless false ∷ []
 storeTests i (IndirectBankY z) = Place i unless false ∷ []
@@ -158,20 +162,20 @@ module _ {M : Type 0} (memory : Memory M) (m : M) (c : ℕ) (map : List ℕ) whe
     rulesOf (AtStack Rts) = Stack i unless isAtZero routine ∷ []
     rulesOf (AtStack Rti) = Stack i unless isAtZero handler ∷ []
     rulesOf (Branch t o) = goesOn next ∷ goesOn (target next o) ∷ []
-    rulesOf (Jump a) = goesOn a ∷ []
-    rulesOf (JumpIndirect a) = Place i unless false ∷ []
+    rulesOf (Jump low high) = goesOn (address low high) ∷ []
+    rulesOf (JumpIndirect low high) = Place i unless false ∷ []
     rulesOf (Jsr low) = goesOn next ∷ calls ∷ []
     rulesOf Brk = Place i unless false ∷ []
     rulesOf Txs = Stack i unless isAtZero main ∷ goesOn next ∷ []
     rulesOf Cli = Stack i unless eqb (mark .kind) main ∷ goesOn next ∷ []
+    rulesOf Undefined = Place i unless false ∷ []
 
     -- "the whole instruction lies in protected pages"; "place, undefined or barred opcode"
     unfoldable pub ruleTests : List Test
     ruleTests =
         Place i unless isProtected c (mark .address) ∷
         Place i unless leb (mark .address + sizeOf entry) 65536 ∷
-        Place i unless isDefined entry ∷
-        ofInstruction rulesOf [] entry (memory .peek m (sum16 (mark .address) 1)) (memory .peek m (sum16 (mark .address) 2))
+        rulesOf (instructionOf entry (memory .peek m (sum16 (mark .address) 1)) (memory .peek m (sum16 (mark .address) 2)))
 
   -- "Admission: 10; 11, first record; 12; then the lowest record, and at it the lowest number."
   abbrev pub admissionTests : List Test

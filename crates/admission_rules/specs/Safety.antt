@@ -8,13 +8,13 @@ use lib.ListN.{length, drop}
 use Rattle.rules.specs.declared.State.{State}
 use Rattle.rules.specs.declared.Stacking.the-variants.{Php, Plp, Pha, Pla, Rts, Rti}
 use Rattle.rules.specs.declared.Instruction.{Instruction}
-use Rattle.rules.specs.declared.Instruction.the-variants.{Read, Store, Change, Accumulator, Implied, AtStack, Branch, Jump, JumpIndirect, Jsr, Brk, Txs, Cli}
+use Rattle.rules.specs.declared.Instruction.the-variants.{Read, Store, Change, Accumulator, Implied, AtStack, Branch, Jump, JumpIndirect, Jsr, Brk, Txs, Cli, Undefined}
 use Rattle.rules.specs.declared.StepAnswer.{StepAnswer}
 use Rattle.rules.specs.declared.StepAnswer.the-variants.{Stepped}
 use Rattle.rules.specs.declared.RunAnswer.the-variants.{Played}
 use Rattle.rules.specs.declared.Verdict.the-variants.{Accepted}
 use Rattle.rules.specs.Basics.{if_then_else_, at, address, sum16}
-use Rattle.rules.specs.Opcodes.{decode, ofInstruction}
+use Rattle.rules.specs.Opcodes.{decode, instructionOf}
 use Rattle.rules.specs.Operations.{stack, down}
 use Rattle.rules.specs.Interrupts.{resOf, nmiOf, Event, res, nmi, irq, execute}
 use Rattle.rules.specs.Bus.{images, isProtected}
@@ -47,12 +47,13 @@ effectOf (AtStack Pla) = pulls 1
 effectOf (AtStack Rts) = pulls 2
 effectOf (AtStack Rti) = pulls 3
 effectOf (Branch t o) = none
-effectOf (Jump a) = none
-effectOf (JumpIndirect a) = none
+effectOf (Jump low high) = none
+effectOf (JumpIndirect low high) = none
 effectOf (Jsr low) = pushes 2
 effectOf Brk = none
 effectOf Txs = clears
 effectOf Cli = none
+effectOf Undefined = none
 
 -- of a step whose instruction, where it executes one, has the effect e
 abbrev pub effectAt : Event → Effect → Effect
@@ -120,7 +121,7 @@ module _ (r : List ℕ) (g : Given) where
   effect =
       let pc = stateIn .cpu .pc in
       effectAt eventIn
-      (ofInstruction effectOf none (decode (opcodeOf images stateIn (g .image))) (at (g .image) (sum16 pc 1)) (at (g .image) (sum16 pc 2)))
+      (effectOf (instructionOf (decode (opcodeOf images stateIn (g .image))) (at (g .image) (sum16 pc 1)) (at (g .image) (sum16 pc 2))))
 
   -- what is promised of it, where k bytes were on the stack
   pub record Fine (map : List ℕ) (k : Stacked) : Type 0 where

@@ -1,4 +1,6 @@
-// The instructions that the table's entries make of the bytes after the opcode.
+// The instruction that an opcode and the two bytes after it stand for. Who calls `decode` knows nothing of the table.
+
+mod table;
 
 use rules::Changing;
 use rules::Condition;
@@ -9,7 +11,8 @@ use rules::Reading;
 use rules::Stacking;
 use rules::Storing;
 ghost use mathlib.Core.Path.{_≡_};
-ghost use Rattle.table.specs.Numbers.{readingOf, storingOf, changingOf, internalOf, stackingOf, conditionOf, modeOf, singleOf, withMode, made};
+ghost use Rattle.rules.specs.Opcodes.{decode, instructionOf};
+ghost use Rattle.decode.specs.Numbers.{readingOf, storingOf, changingOf, internalOf, stackingOf, conditionOf, modeOf, singleOf, withMode, made};
 
 fn reading(n: u8) -> Reading
     ensures { λ r. ⌜ r ≡ readingOf n ⌝ }
@@ -19,14 +22,14 @@ fn reading(n: u8) -> Reading
         1 => Reading::And,
         2 => Reading::Eor,
         3 => Reading::Adc,
-        4 => Reading::Lda,
-        5 => Reading::Cmp,
-        6 => Reading::Sbc,
-        7 => Reading::Ldx,
-        8 => Reading::Ldy,
-        9 => Reading::Cpx,
+        4 => Reading::Bit,
+        5 => Reading::Lda,
+        6 => Reading::Cmp,
+        7 => Reading::Sbc,
+        8 => Reading::Ldx,
+        9 => Reading::Ldy,
         10 => Reading::Cpy,
-        _ => Reading::Bit,
+        _ => Reading::Cpx,
     }
 }
 
@@ -59,20 +62,20 @@ fn internal(n: u8) -> Internal
     match n {
         0 => Internal::Clc,
         1 => Internal::Sec,
-        2 => Internal::Sei,
-        3 => Internal::Clv,
-        4 => Internal::Cld,
-        5 => Internal::Sed,
-        6 => Internal::Tax,
-        7 => Internal::Txa,
-        8 => Internal::Tay,
-        9 => Internal::Tya,
-        10 => Internal::Tsx,
-        11 => Internal::Inx,
-        12 => Internal::Iny,
-        13 => Internal::Dex,
-        14 => Internal::Dey,
-        _ => Internal::Nop,
+        2 => Internal::Tsx,
+        3 => Internal::Sei,
+        4 => Internal::Tya,
+        5 => Internal::Clv,
+        6 => Internal::Cld,
+        7 => Internal::Sed,
+        8 => Internal::Txa,
+        9 => Internal::Tax,
+        10 => Internal::Dex,
+        11 => Internal::Nop,
+        12 => Internal::Dey,
+        13 => Internal::Tay,
+        14 => Internal::Iny,
+        _ => Internal::Inx,
     }
 }
 
@@ -84,8 +87,8 @@ fn stacking(n: u8) -> Stacking
         1 => Stacking::Plp,
         2 => Stacking::Pha,
         3 => Stacking::Pla,
-        4 => Stacking::Rts,
-        _ => Stacking::Rti,
+        4 => Stacking::Rti,
+        _ => Stacking::Rts,
     }
 }
 
@@ -108,15 +111,15 @@ fn mode(n: u8, low: u8, high: u8) -> Mode
     ensures { λ r. ⌜ r ≡ modeOf n low high ⌝ }
 {
     match n {
-        0 => Mode::Immediate(low),
+        0 => Mode::IndirectX(low),
         1 => Mode::Zero(low),
-        2 => Mode::ZeroX(low),
-        3 => Mode::ZeroY(low),
-        4 => Mode::Absolute(bytes::join(low, high)),
-        5 => Mode::AbsoluteX(bytes::join(low, high)),
-        6 => Mode::AbsoluteY(bytes::join(low, high)),
-        7 => Mode::IndirectX(low),
-        8 => Mode::IndirectY(low),
+        2 => Mode::Immediate(low),
+        3 => Mode::Absolute(low, high),
+        4 => Mode::IndirectY(low),
+        5 => Mode::ZeroX(low),
+        6 => Mode::AbsoluteY(low, high),
+        7 => Mode::AbsoluteX(low, high),
+        8 => Mode::ZeroY(low),
         _ => Mode::IndirectBankY(low),
     }
 }
@@ -125,12 +128,13 @@ fn single(n: u8, low: u8, high: u8) -> Instruction
     ensures { λ r. ⌜ r ≡ singleOf n low high ⌝ }
 {
     match n {
-        0 => Instruction::Jump(bytes::join(low, high)),
-        1 => Instruction::JumpIndirect(bytes::join(low, high)),
+        0 => Instruction::Jump(low, high),
+        1 => Instruction::JumpIndirect(low, high),
         2 => Instruction::Jsr(low),
         3 => Instruction::Brk,
         4 => Instruction::Txs,
-        _ => Instruction::Cli,
+        5 => Instruction::Cli,
+        _ => Instruction::Undefined,
     }
 }
 
@@ -148,7 +152,7 @@ fn with_mode(n: u8, m: Mode) -> Instruction
 }
 
 // The instruction that an entry makes of the bytes after the opcode.
-pub fn instruction_of(entry: u8, low: u8, high: u8) -> Instruction
+fn instruction_of(entry: u8, low: u8, high: u8) -> Instruction
     ensures { λ r. ⌜ r ≡ made entry low high ⌝ }
 {
     if entry < table::ASL_A {
@@ -167,4 +171,11 @@ pub fn instruction_of(entry: u8, low: u8, high: u8) -> Instruction
         return Instruction::Branch(condition(entry - table::BPL), low);
     }
     single(entry - table::JMP, low, high)
+}
+
+// "an operation with its addressing mode, and the mode with its operand". What is no operand of the instruction is not looked at.
+pub fn decode(opcode: u8, low: u8, high: u8) -> Instruction
+    ensures { λ r. ⌜ r ≡ instructionOf (decode opcode) low high ⌝ }
+{
+    instruction_of(table::entry_of(opcode), low, high)
 }

@@ -13,7 +13,7 @@ use Rattle.rules.specs.declared.Mode.{Mode}
 use Rattle.rules.specs.declared.Mode.the-variants.{Immediate, Zero, ZeroX, ZeroY, Absolute, AbsoluteX, AbsoluteY, IndirectX, IndirectY, IndirectBankY}
 use Rattle.rules.specs.declared.Stacking.the-variants.{Php, Plp, Pha, Pla, Rts, Rti}
 use Rattle.rules.specs.declared.Instruction.{Instruction}
-use Rattle.rules.specs.declared.Instruction.the-variants.{Read, Store, Change, Accumulator, Implied, AtStack, Branch, Jump, JumpIndirect, Jsr, Brk, Txs, Cli}
+use Rattle.rules.specs.declared.Instruction.the-variants.{Read, Store, Change, Accumulator, Implied, AtStack, Branch, Jump, JumpIndirect, Jsr, Brk, Txs, Cli, Undefined}
 use Rattle.rules.specs.Basics.{if_then_else_, address}
 use Rattle.rules.specs.Cycles.{Bank, execution, indirect, _>>=_, Device, run}
 use Rattle.rules.specs.Opcodes.{Entry, undefined, alone, byte, word, late, Row, rows, among, decode, isDefined}
@@ -33,9 +33,9 @@ loadMost (Immediate v) = 0
 loadMost (Zero z) = 1
 loadMost (ZeroX z) = 2
 loadMost (ZeroY z) = 2
-loadMost (Absolute a) = 1
-loadMost (AbsoluteX a) = 2
-loadMost (AbsoluteY a) = 2
+loadMost (Absolute low high) = 1
+loadMost (AbsoluteX low high) = 2
+loadMost (AbsoluteY low high) = 2
 loadMost (IndirectX z) = 4
 loadMost (IndirectY z) = 4
 loadMost (IndirectBankY z) = 4
@@ -45,9 +45,9 @@ placeMost (Immediate v) = 0
 placeMost (Zero z) = 0
 placeMost (ZeroX z) = 1
 placeMost (ZeroY z) = 1
-placeMost (Absolute a) = 0
-placeMost (AbsoluteX a) = 1
-placeMost (AbsoluteY a) = 1
+placeMost (Absolute low high) = 0
+placeMost (AbsoluteX low high) = 1
+placeMost (AbsoluteY low high) = 1
 placeMost (IndirectX z) = 3
 placeMost (IndirectY z) = 3
 placeMost (IndirectBankY z) = 3
@@ -65,12 +65,13 @@ instructionMost (AtStack Pla) = 2
 instructionMost (AtStack Rts) = 4
 instructionMost (AtStack Rti) = 4
 instructionMost (Branch t o) = 2
-instructionMost (Jump a) = 0
-instructionMost (JumpIndirect a) = 2
+instructionMost (Jump low high) = 0
+instructionMost (JumpIndirect low high) = 2
 instructionMost (Jsr low) = 4
 instructionMost Brk = 5
 instructionMost Txs = 0
 instructionMost Cli = 0
+instructionMost Undefined = 0
 
 indexed-most : (b : Bank) (a i : ℕ) → Most 2 (loadIndexed b a i)
 unfolding loadIndexed
@@ -82,9 +83,9 @@ load-most c (Immediate v) = tt
 load-most c (Zero z) = λ v. tt
 load-most c (ZeroX z) = λ u v. tt
 load-most c (ZeroY z) = λ u v. tt
-load-most c (Absolute a) = λ v. tt
-load-most c (AbsoluteX a) = indexed-most execution a (c .x)
-load-most c (AbsoluteY a) = indexed-most execution a (c .y)
+load-most c (Absolute low high) = λ v. tt
+load-most c (AbsoluteX low high) = indexed-most execution (address low high) (c .x)
+load-most c (AbsoluteY low high) = indexed-most execution (address low high) (c .y)
 load-most c (IndirectX z) = λ t u v w. tt
 load-most c (IndirectY z) = λ low high. indexed-most execution (address low high) (c .y)
 load-most c (IndirectBankY z) = λ low high. indexed-most indirect (address low high) (c .y)
@@ -95,9 +96,9 @@ place-most c (Immediate v) = tt
 place-most c (Zero z) = tt
 place-most c (ZeroX z) = λ u. tt
 place-most c (ZeroY z) = λ u. tt
-place-most c (Absolute a) = tt
-place-most c (AbsoluteX a) = λ u. tt
-place-most c (AbsoluteY a) = λ u. tt
+place-most c (Absolute low high) = tt
+place-most c (AbsoluteX low high) = λ u. tt
+place-most c (AbsoluteY low high) = λ u. tt
 place-most c (IndirectX z) = λ t u v. tt
 place-most c (IndirectY z) = λ low high v. tt
 place-most c (IndirectBankY z) = λ low high v. tt
@@ -120,51 +121,51 @@ perform-most (AtStack Pla) c = λ v p. tt
 perform-most (AtStack Rts) c = λ v low high w. tt
 perform-most (AtStack Rti) c = λ v p low high. tt
 perform-most (Branch t o) c = most-if 2 (taken t (c .p)) _ _ (branch-most (target (c .pc) o) c) tt
-perform-most (Jump a) c = tt
-perform-most (JumpIndirect a) c = λ low high. tt
+perform-most (Jump low high) c = tt
+perform-most (JumpIndirect low high) c = λ v w. tt
 perform-most (Jsr low) c = λ v high. tt
 perform-most Brk c = λ low high. tt
 perform-most Txs c = tt
 perform-most Cli c = tt
+perform-most Undefined c = tt
 
--- The same of an entry, whose operand is v: the operand's accesses come first.
+-- The same of an entry, whose operand is low and high: the operand's accesses come first.
 
-abbrev pub entryMost : Entry → ℕ → ℕ
-entryMost undefined v = 0
-entryMost (alone i) v = 1 + instructionMost i
-entryMost (byte f) v = 1 + instructionMost (f v)
-entryMost (word f) v = 2 + instructionMost (f v)
-entryMost (late f) v = 1 + instructionMost (f v)
+abbrev pub entryMost : Entry → ℕ → ℕ → ℕ
+entryMost undefined low high = 0
+entryMost (alone i) low high = 1 + instructionMost i
+entryMost (byte f) low high = 1 + instructionMost (f low)
+entryMost (word f) low high = 2 + instructionMost (f low high)
+entryMost (late f) low high = 1 + instructionMost (f low)
 
-operate-most : (n : ℕ) (e : Entry) (c : Cpu) → ((v : ℕ) → entryMost e v ≤ suc (suc n)) → Most (suc (suc n)) (operate e c)
+operate-most : (n : ℕ) (e : Entry) (c : Cpu) → ((low high : ℕ) → entryMost e low high ≤ suc (suc n)) → Most (suc (suc n)) (operate e c)
 unfolding operate _>>=_
 operate-most n undefined c h = tt
-operate-most n (alone i) c h = λ v. most-le (instructionMost i) (suc n) (omega (arith, h 0)) (perform i c) (perform-most i c)
-operate-most n (byte f) c h = λ v. most-le (instructionMost (f v)) (suc n) (omega (arith, h v)) (perform (f v) (next c)) (perform-most (f v) (next c))
+operate-most n (alone i) c h = λ v. most-le (instructionMost i) (suc n) (omega (arith, h 0 0)) (perform i c) (perform-most i c)
+operate-most n (byte f) c h = λ v. most-le (instructionMost (f v)) (suc n) (omega (arith, h v 0)) (perform (f v) (next c)) (perform-most (f v) (next c))
 operate-most n (word f) c h = λ low high.
-    let v = address low high in
-    most-le (instructionMost (f v)) n (omega (arith, h v)) (perform (f v) (next (next c))) (perform-most (f v) (next (next c)))
-operate-most n (late f) c h = λ v. most-le (instructionMost (f v)) (suc n) (omega (arith, h v)) (perform (f v) (next c)) (perform-most (f v) (next c))
+    let i = f low high in most-le (instructionMost i) n (omega (arith, h low high)) (perform i (next (next c))) (perform-most i (next (next c)))
+operate-most n (late f) c h = λ v. most-le (instructionMost (f v)) (suc n) (omega (arith, h v 0)) (perform (f v) (next c)) (perform-most (f v) (next c))
 
 -- the test of all rows, whatever the operand
-abbrev short : List Row → ℕ → Bool
-short [] v = true
-short (r ∷ rs) v = leb (entryMost (r .entry) v) 6 && short rs v
+abbrev short : List Row → ℕ → ℕ → Bool
+short [] low high = true
+short (r ∷ rs) low high = leb (entryMost (r .entry) low high) 6 && short rs low high
 
-rows-short : (v : ℕ) → short rows v ≡ true
-rows-short v = refl
+rows-short : (low high : ℕ) → short rows low high ≡ true
+rows-short low high = refl
 
-among-short : (l : List Row) (n v : ℕ) → short l v ≡ true → entryMost (among l n) v ≤ 6
-among-short [] n v h = omega arith
-among-short (r ∷ l) n v h = go (eqb n (r .opcode)) (among-short l n v (and-right (leb (entryMost (r .entry) v) 6) (short l v) h))
+among-short : (l : List Row) (n low high : ℕ) → short l low high ≡ true → entryMost (among l n) low high ≤ 6
+among-short [] n low high h = omega arith
+among-short (r ∷ l) n low high h = go (eqb n (r .opcode)) (among-short l n low high (and-right (leb (entryMost (r .entry) low high) 6) (short l low high) h))
   where
-    go : (b : Bool) → entryMost (among l n) v ≤ 6 → entryMost (if b then r .entry else among l n) v ≤ 6
-    go true q = leb-true (entryMost (r .entry) v) 6 (and-left (leb (entryMost (r .entry) v) 6) (short l v) h)
+    go : (b : Bool) → entryMost (among l n) low high ≤ 6 → entryMost (if b then r .entry else among l n) low high ≤ 6
+    go true q = leb-true (entryMost (r .entry) low high) 6 (and-left (leb (entryMost (r .entry) low high) 6) (short l low high) h)
     go false q = q
 
-pub decode-short : (n v : ℕ) → entryMost (decode n) v ≤ 6
+pub decode-short : (n low high : ℕ) → entryMost (decode n) low high ≤ 6
 unfolding decode
-decode-short n v = among-short rows n v (rows-short v)
+decode-short n low high = among-short rows n low high (rows-short low high)
 
 pub at-most-seven : (e : Event) (c : Cpu) → Most 7 (cyclesOf e c)
 unfolding cyclesOf instruction reset interrupt enter _>>=_

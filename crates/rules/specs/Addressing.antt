@@ -47,9 +47,9 @@ load c (Immediate v) = done v
 load c (Zero z) = get z
 load c (ZeroX z) = zeroIndexed z (c .x) >>= get
 load c (ZeroY z) = zeroIndexed z (c .y) >>= get
-load c (Absolute a) = get a
-load c (AbsoluteX a) = loadIndexed execution a (c .x)
-load c (AbsoluteY a) = loadIndexed execution a (c .y)
+load c (Absolute low high) = get (address low high)
+load c (AbsoluteX low high) = loadIndexed execution (address low high) (c .x)
+load c (AbsoluteY low high) = loadIndexed execution (address low high) (c .y)
 load c (IndirectX z) = zeroIndexed z (c .x) >>= λ p. pointer p >>= get
 load c (IndirectY z) = pointer z >>= λ a. loadIndexed execution a (c .y)
 load c (IndirectBankY z) = pointer z >>= λ a. loadIndexed indirect a (c .y)
@@ -60,9 +60,9 @@ place c (Immediate v) = done v
 place c (Zero z) = done z
 place c (ZeroX z) = zeroIndexed z (c .x)
 place c (ZeroY z) = zeroIndexed z (c .y)
-place c (Absolute a) = done a
-place c (AbsoluteX a) = indexed execution a (c .x)
-place c (AbsoluteY a) = indexed execution a (c .y)
+place c (Absolute low high) = done (address low high)
+place c (AbsoluteX low high) = indexed execution (address low high) (c .x)
+place c (AbsoluteY low high) = indexed execution (address low high) (c .y)
 place c (IndirectX z) = zeroIndexed z (c .x) >>= pointer
 place c (IndirectY z) = pointer z >>= λ a. indexed execution a (c .y)
 place c (IndirectBankY z) = pointer z >>= λ a. indexed indirect a (c .y)
@@ -73,9 +73,9 @@ bankOf (Immediate v) = execution
 bankOf (Zero z) = execution
 bankOf (ZeroX z) = execution
 bankOf (ZeroY z) = execution
-bankOf (Absolute a) = execution
-bankOf (AbsoluteX a) = execution
-bankOf (AbsoluteY a) = execution
+bankOf (Absolute low high) = execution
+bankOf (AbsoluteX low high) = execution
+bankOf (AbsoluteY low high) = execution
 bankOf (IndirectX z) = execution
 bankOf (IndirectY z) = execution
 bankOf (IndirectBankY z) = indirect

@@ -13,15 +13,16 @@ use Rattle.rules.specs.declared.Condition.the-variants.{Bpl, Bmi, Bvc, B
 use Rattle.rules.specs.declared.Internal.the-variants.{Clc, Sec, Sei, Clv, Cld, Sed, Tax, Txa, Tay, Tya, Tsx, Inx, Iny, Dex, Dey, Nop}
 use Rattle.rules.specs.declared.Stacking.the-variants.{Php, Plp, Pha, Pla, Rts, Rti}
 use Rattle.rules.specs.declared.Instruction.{Instruction}
-use Rattle.rules.specs.declared.Instruction.the-variants.{Read, Store, Change, Accumulator, Implied, AtStack, Branch, Jump, JumpIndirect, Jsr, Brk, Txs, Cli}
-use Rattle.rules.specs.Basics.{if_then_else_, address}
+use Rattle.rules.specs.declared.Instruction.the-variants.{Read, Store, Change, Accumulator, Implied, AtStack, Branch, Jump, JumpIndirect, Jsr, Brk, Txs, Cli, Undefined}
+use Rattle.rules.specs.Basics.{if_then_else_}
 
 -- What an opcode stands for: nothing, or an instruction that is made of no operand, of a byte, of an address (low byte first), or, late, of
 -- the low byte of an address whose high byte is read by the instruction itself.
 pub data Entry : Type 0 where
   undefined : Entry
   alone : Instruction → Entry
-  byte word late : (ℕ → Instruction) → Entry
+  byte late : (ℕ → Instruction) → Entry
+  word : (ℕ → ℕ → Instruction) → Entry
 
 -- how many bytes an instruction is long
 abbrev pub sizeOf : Entry → ℕ
@@ -38,18 +39,19 @@ isDefined (byte f) = true
 isDefined (word f) = true
 isDefined (late f) = true
 
--- what f says of the instruction that an entry makes of two bytes after the opcode, or, where there is none, x
-abbrev pub ofInstruction : {A : Type 0} → (Instruction → A) → A → Entry → ℕ → ℕ → A
-ofInstruction f x undefined low high = x
-ofInstruction f x (alone i) low high = f i
-ofInstruction f x (byte g) low high = f (g low)
-ofInstruction f x (word g) low high = f (g (address low high))
-ofInstruction f x (late g) low high = f (g low)
+-- the instruction that an entry makes of the two bytes after the opcode
+abbrev pub instructionOf : Entry → ℕ → ℕ → Instruction
+instructionOf undefined low high = Undefined
+instructionOf (alone i) low high = i
+instructionOf (byte f) low high = f low
+instructionOf (word f) low high = f low high
+instructionOf (late f) low high = f low
 
 -- The modes as the document writes them: #, z, a, (z,X), .., by the length of their operand. "Only the last one or two accesses of B1 and 91
 -- (after the pointer) use the indirect bank": ⟨z⟩Yᵢ is their (z),Y.
 pub data Form : Type 0 where
-  one two : (ℕ → Mode) → Form
+  one : (ℕ → Mode) → Form
+  two : (ℕ → ℕ → Mode) → Form
 
 abbrev pub # : Form
 # = one Immediate
@@ -85,7 +87,7 @@ infix 69 _·_
 -- an operation with a mode
 abbrev pub _·_ : (Mode → Instruction) → Form → Entry
 op · (one mode) = byte (λ v. op (mode v))
-op · (two mode) = word (λ v. op (mode v))
+op · (two mode) = word (λ low high. op (mode low high))
 
 pub record Row : Type 0 where
   pub opcode : ℕ

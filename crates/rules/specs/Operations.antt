@@ -17,7 +17,7 @@ use Rattle.rules.specs.declared.Internal.the-variants.{Clc, Sec, Sei, Cl
 use Rattle.rules.specs.declared.Stacking.{Stacking}
 use Rattle.rules.specs.declared.Stacking.the-variants.{Php, Plp, Pha, Pla, Rts, Rti}
 use Rattle.rules.specs.declared.Instruction.{Instruction}
-use Rattle.rules.specs.declared.Instruction.the-variants.{Read, Store, Change, Accumulator, Implied, AtStack, Branch, Jump, JumpIndirect, Jsr, Brk, Txs, Cli}
+use Rattle.rules.specs.declared.Instruction.the-variants.{Read, Store, Change, Accumulator, Implied, AtStack, Branch, Jump, JumpIndirect, Jsr, Brk, Txs, Cli, Undefined}
 use Rattle.rules.specs.Basics.{if_then_else_, address, sum8, sum16}
 use Rattle.rules.specs.Cycles.{Cycles, done, write, _>>=_, _>>_}
 use Rattle.rules.specs.Flags.{byteOf4, flagsOf, nz, withV, withD, withI, withC}
@@ -200,12 +200,13 @@ perform (Accumulator o) c = done (withResult (changed o (c .a) (c .p)) c)
 perform (Implied o) c = done (inside o c)
 perform (AtStack o) c = atStack o c
 perform (Branch t o) c = if taken t (c .p) then branchTo (target (c .pc) o) c else done c
-perform (Jump a) c = done (withPc a c)
-perform (JumpIndirect a) c = jumpIndirect a c
+perform (Jump low high) c = done (withPc (address low high) c)
+perform (JumpIndirect low high) c = jumpIndirect (address low high) c
 perform (Jsr low) c = jsr low c
 perform Brk c = brk c
 perform Txs c = done (withS (c .x) c)
 perform Cli c = done (withP (withI false (c .p)) c)
+perform Undefined c = done c
 
 -- PC one further
 abbrev pub next : Cpu → Cpu
@@ -216,7 +217,7 @@ unfoldable pub operate : Entry → Cpu → Cycles Cpu
 operate undefined c = done c
 operate (alone i) c = get (c .pc) >> perform i c
 operate (byte f) c = get (c .pc) >>= λ v. perform (f v) (next c)
-operate (word f) c = get (c .pc) >>= λ low. get (next c .pc) >>= λ high. perform (f (address low high)) (next (next c))
+operate (word f) c = get (c .pc) >>= λ low. get (next c .pc) >>= λ high. perform (f low high) (next (next c))
 operate (late f) c = get (c .pc) >>= λ low. perform (f low) (next c)
 
 -- the instruction at PC

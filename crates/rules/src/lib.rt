@@ -45,17 +45,17 @@ pub struct State {
     pub cycles: u32,
 }
 
-// An addressing mode with its operand. IndirectBankY is (z),Y whose data lies in a 6509's indirect bank.
+// An addressing mode with its operand: a byte, or an address, low byte first. IndirectBankY is (z),Y whose data lies in a 6509's indirect bank.
 pub enum Mode {
-    Immediate(u8),
-    Zero(u8),
-    ZeroX(u8),
-    ZeroY(u8),
-    Absolute(u16),
-    AbsoluteX(u16),
-    AbsoluteY(u16),
     IndirectX(u8),
+    Zero(u8),
+    Immediate(u8),
+    Absolute(u8, u8),
     IndirectY(u8),
+    ZeroX(u8),
+    AbsoluteY(u8, u8),
+    AbsoluteX(u8, u8),
+    ZeroY(u8),
     IndirectBankY(u8),
 }
 
@@ -65,14 +65,14 @@ pub enum Reading {
     And,
     Eor,
     Adc,
+    Bit,
     Lda,
     Cmp,
     Sbc,
     Ldx,
     Ldy,
-    Cpx,
     Cpy,
-    Bit,
+    Cpx,
 }
 
 // Which register is stored.
@@ -108,20 +108,20 @@ pub enum Condition {
 pub enum Internal {
     Clc,
     Sec,
+    Tsx,
     Sei,
+    Tya,
     Clv,
     Cld,
     Sed,
-    Tax,
     Txa,
-    Tay,
-    Tya,
-    Tsx,
-    Inx,
-    Iny,
+    Tax,
     Dex,
-    Dey,
     Nop,
+    Dey,
+    Tay,
+    Iny,
+    Inx,
 }
 
 // What is done at the stack, by an instruction that is its opcode alone.
@@ -130,12 +130,13 @@ pub enum Stacking {
     Plp,
     Pha,
     Pla,
-    Rts,
     Rti,
+    Rts,
 }
 
 // An instruction, grouped by its shape on the bus: "an operation with its addressing mode, and the mode with its operand". Where an
 // operation has one mode only, its case carries the operand itself. Of a JSR that is the low byte: the high one is read after the pushes.
+// Undefined is what "the other 105" opcodes stand for. Cases are in the order of the opcode's fields where these tell them apart.
 pub enum Instruction {
     Read(Reading, Mode),
     Store(Storing, Mode),
@@ -144,12 +145,13 @@ pub enum Instruction {
     Implied(Internal),
     AtStack(Stacking),
     Branch(Condition, u8),
-    Jump(u16),
-    JumpIndirect(u16),
+    Jump(u8, u8),
+    JumpIndirect(u8, u8),
     Jsr(u8),
     Brk,
     Txs,
     Cli,
+    Undefined,
 }
 
 // Why a call is refused, in the order of the documents' numbers, with the details.

@@ -1,6 +1,6 @@
 use Rattle.rules.specs.declared.Changing.the-variants.{Inc}
-use Rattle.table.specs.Numbers.{changings}
-use Rattle.table.proofs.Lists.{last}
+use Rattle.decode.specs.Numbers.{changings}
+use Rattle.decode.proofs.Lists.{last}
 use borrow.Author.Needs.{needs}
 use Rattle.decode.proofs.changing.Statement.{statement}
 use Rattle.decode.proofs.changing.Tie as tie

@@ -1,6 +1,6 @@
 use Rattle.rules.specs.declared.Condition.the-variants.{Beq}
-use Rattle.table.specs.Numbers.{conditions}
-use Rattle.table.proofs.Lists.{last}
+use Rattle.decode.specs.Numbers.{conditions}
+use Rattle.decode.proofs.Lists.{last}
 use borrow.Author.Needs.{needs}
 use Rattle.decode.proofs.condition.Statement.{statement}
 use Rattle.decode.proofs.condition.Tie as tie

@@ -1,4 +1,4 @@
-use Rattle.table.specs.Numbers.{made}
+use Rattle.decode.specs.Numbers.{made}
 use borrow.Author.Tests.{lt-ltb, le-ltb}
 use borrow.Author.Needs.{needs}
 use Rattle.decode.proofs.instruction_of.Statement.{statement}

@@ -1,6 +1,6 @@
-use Rattle.rules.specs.declared.Internal.the-variants.{Nop}
-use Rattle.table.specs.Numbers.{internals}
-use Rattle.table.proofs.Lists.{last}
+use Rattle.rules.specs.declared.Internal.the-variants.{Inx}
+use Rattle.decode.specs.Numbers.{internals}
+use Rattle.decode.proofs.Lists.{last}
 use borrow.Author.Needs.{needs}
 use Rattle.decode.proofs.internal.Statement.{statement}
 use Rattle.decode.proofs.internal.Tie as tie
@@ -24,4 +24,4 @@ internal-spec =
     (λ c. search needs)
     (λ c. search needs)
     (λ c. search needs)
-    (λ c. last internals _ Nop (c .match .rest)))
+    (λ c. last internals _ Inx (c .match .rest)))

@@ -1,6 +1,6 @@
-use Rattle.rules.specs.declared.Reading.the-variants.{Bit}
-use Rattle.table.specs.Numbers.{readings}
-use Rattle.table.proofs.Lists.{last}
+use Rattle.rules.specs.declared.Reading.the-variants.{Cpx}
+use Rattle.decode.specs.Numbers.{readings}
+use Rattle.decode.proofs.Lists.{last}
 use borrow.Author.Needs.{needs}
 use Rattle.decode.proofs.reading.Statement.{statement}
 use Rattle.decode.proofs.reading.Tie as tie
@@ -20,4 +20,4 @@ reading-spec =
     (λ c. search needs)
     (λ c. search needs)
     (λ c. search needs)
-    (λ c. last readings _ Bit (c .match .rest)))
+    (λ c. last readings _ Cpx (c .match .rest)))

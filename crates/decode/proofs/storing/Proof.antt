@@ -1,6 +1,6 @@
 use Rattle.rules.specs.declared.Storing.the-variants.{Sty}
-use Rattle.table.specs.Numbers.{storings}
-use Rattle.table.proofs.Lists.{last}
+use Rattle.decode.specs.Numbers.{storings}
+use Rattle.decode.proofs.Lists.{last}
 use borrow.Author.Needs.{needs}
 use Rattle.decode.proofs.storing.Statement.{statement}
 use Rattle.decode.proofs.storing.Tie as tie

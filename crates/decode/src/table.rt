@@ -1,12 +1,9 @@
-// The table of 256 opcodes, and how many bytes an entry fetches.
-//
-// An entry is one byte: the instruction apart from its operand. Of the 21 operations that have a mode, it is 21 times the mode and the
-// operation, so that the modes with an address of two bytes lie side by side; the instructions without a mode follow, one number each.
-// Each group is in the order of its enum in rules.
+// The table of 256 opcodes. An entry is one byte: the instruction apart from its operand. Of the 21 operations that have a mode, it is 21
+// times the mode and the operation; the instructions without a mode follow, one number each. Each group is in the order of its enum in rules.
 
 ghost use mathlib.Core.Path.{_≡_};
 ghost use Rattle.rules.specs.Opcodes.{decode};
-ghost use Rattle.table.specs.Numbers.{numberOf, entries, fetched};
+ghost use Rattle.decode.specs.Numbers.{numberOf};
 
 // What reads a byte.
 const ORA: u8 = 0;
@@ -17,31 +14,31 @@ const EOR: u8 = 2;
 
 const ADC: u8 = 3;
 
-const LDA: u8 = 4;
+const BIT: u8 = 4;
 
-const CMP: u8 = 5;
+const LDA: u8 = 5;
 
-const SBC: u8 = 6;
+const CMP: u8 = 6;
 
-const LDX: u8 = 7;
+const SBC: u8 = 7;
 
-const LDY: u8 = 8;
+const LDX: u8 = 8;
 
-const CPX: u8 = 9;
+const LDY: u8 = 9;
 
 const CPY: u8 = 10;
 
-const BIT: u8 = 11;
+const CPX: u8 = 11;
 
 // What stores a register.
-pub const STA: u8 = 12;
+pub(crate) const STA: u8 = 12;
 
 const STX: u8 = 13;
 
 const STY: u8 = 14;
 
 // What changes a byte in memory.
-pub const ASL: u8 = 15;
+pub(crate) const ASL: u8 = 15;
 
 const ROL: u8 = 16;
 
@@ -54,31 +51,31 @@ const DEC: u8 = 19;
 const INC: u8 = 20;
 
 // From one mode to the next: as many as the operations above.
-pub const MODE: u8 = 21;
+pub(crate) const MODE: u8 = 21;
 
-// The modes: #, z, z,X, z,Y, a, a,X, a,Y, (z,X), (z),Y, and (z),Y in the indirect bank.
-const IM: u8 = 0;
+// The modes: (z,X), z, #, a, (z),Y, z,X, a,Y, a,X, z,Y, and (z),Y in the indirect bank.
+const IX: u8 = 0;
 
 const Z: u8 = 21;
 
-const ZX: u8 = 42;
+const IM: u8 = 42;
 
-const ZY: u8 = 63;
+const A: u8 = 63;
 
-const A: u8 = 84;
+const IY: u8 = 84;
 
-const AX: u8 = 105;
+const ZX: u8 = 105;
 
 const AY: u8 = 126;
 
-const IX: u8 = 147;
+const AX: u8 = 147;
 
-const IY: u8 = 168;
+const ZY: u8 = 168;
 
 const BY: u8 = 189;
 
 // What changes A.
-pub const ASL_A: u8 = 210;
+pub(crate) const ASL_A: u8 = 210;
 
 const ROL_A: u8 = 211;
 
@@ -87,40 +84,40 @@ const LSR_A: u8 = 212;
 const ROR_A: u8 = 213;
 
 // What stays inside the processor.
-pub const CLC: u8 = 214;
+pub(crate) const CLC: u8 = 214;
 
 const SEC: u8 = 215;
 
-const SEI: u8 = 216;
+const TSX: u8 = 216;
 
-const CLV: u8 = 217;
+const SEI: u8 = 217;
 
-const CLD: u8 = 218;
+const TYA: u8 = 218;
 
-const SED: u8 = 219;
+const CLV: u8 = 219;
 
-const TAX: u8 = 220;
+const CLD: u8 = 220;
 
-const TXA: u8 = 221;
+const SED: u8 = 221;
 
-const TAY: u8 = 222;
+const TXA: u8 = 222;
 
-const TYA: u8 = 223;
+const TAX: u8 = 223;
 
-const TSX: u8 = 224;
+const DEX: u8 = 224;
 
-const INX: u8 = 225;
+const NOP: u8 = 225;
 
-const INY: u8 = 226;
+const DEY: u8 = 226;
 
-const DEX: u8 = 227;
+const TAY: u8 = 227;
 
-const DEY: u8 = 228;
+const INY: u8 = 228;
 
-const NOP: u8 = 229;
+const INX: u8 = 229;
 
 // What is done at the stack.
-pub const PHP: u8 = 230;
+pub(crate) const PHP: u8 = 230;
 
 const PLP: u8 = 231;
 
@@ -128,12 +125,12 @@ const PHA: u8 = 232;
 
 const PLA: u8 = 233;
 
-const RTS: u8 = 234;
+const RTI: u8 = 234;
 
-const RTI: u8 = 235;
+const RTS: u8 = 235;
 
 // The branches.
-pub const BPL: u8 = 236;
+pub(crate) const BPL: u8 = 236;
 
 const BMI: u8 = 237;
 
@@ -150,11 +147,11 @@ const BNE: u8 = 242;
 const BEQ: u8 = 243;
 
 // The others, each a case of its own in Instruction.
-pub const JMP: u8 = 244;
+pub(crate) const JMP: u8 = 244;
 
 const JMP_INDIRECT: u8 = 245;
 
-pub const JSR: u8 = 246;
+pub(crate) const JSR: u8 = 246;
 
 const BRK: u8 = 247;
 
@@ -163,7 +160,7 @@ const TXS: u8 = 248;
 const CLI: u8 = 249;
 
 // "the other 105 are undefined"
-pub const UNDEFINED: u8 = 255;
+pub(crate) const UNDEFINED: u8 = 250;
 
 // "The 151 opcodes stand in a table of 256 entries"
 const TABLE: [u8; 256] = [
@@ -441,43 +438,8 @@ const TABLE: [u8; 256] = [
     UNDEFINED,
 ];
 
-pub fn entry_of(opcode: u8) -> u8
+pub(crate) fn entry_of(opcode: u8) -> u8
     ensures { λ r. ⌜ r ≡ numberOf (decode opcode) ⌝ }
 {
     TABLE[opcode as usize]
-}
-
-// All entries at once, for who reads many.
-pub fn entries() -> [u8; 256]
-    ensures { λ r. ⌜ r ≡ entries ⌝ }
-{
-    TABLE
-}
-
-// How many bytes are fetched before the instruction's own accesses: the opcode and the operand, of JSR its low byte only.
-pub fn fetched(entry: u8) -> u16
-    ensures { λ r. ⌜ r ≡ fetched entry ⌝ }
-{
-    if entry < A {
-        return 2;
-    }
-    if entry < IX {
-        return 3;
-    }
-    if entry < ASL_A {
-        return 2;
-    }
-    if entry < BPL {
-        return 1;
-    }
-    if entry < JMP {
-        return 2;
-    }
-    if entry < JSR {
-        return 3;
-    }
-    if entry == JSR {
-        return 2;
-    }
-    1
 }

@@ -1,8 +1,8 @@
 -- An instruction as a number, its operand apart: what an entry of the table is. Of the 21 operations that have a mode it is 21 times the
 -- mode and the operation.
 use Prim.Native.Nat.{ℕ, _+_, _-_, _*_, _/_, _%_}
-use mathlib.Core.List.{List, [], _∷_, map}
-use lib.Dec.{ltb, eqb}
+use mathlib.Core.List.{List, [], _∷_}
+use lib.Dec.{ltb}
 use lib.ListN.{getD}
 use Rattle.rules.specs.declared.Mode.{Mode}
 use Rattle.rules.specs.declared.Mode.the-variants.{Immediate, Zero, ZeroX, ZeroY, Absolute, AbsoluteX, AbsoluteY, IndirectX, IndirectY, IndirectBankY}
@@ -19,21 +19,20 @@ use Rattle.rules.specs.declared.Internal.the-variants.{Clc, Sec, Sei, Clv, Cld,
 use Rattle.rules.specs.declared.Stacking.{Stacking}
 use Rattle.rules.specs.declared.Stacking.the-variants.{Php, Plp, Pha, Pla, Rts, Rti}
 use Rattle.rules.specs.declared.Instruction.{Instruction}
-use Rattle.rules.specs.declared.Instruction.the-variants.{Read, Store, Change, Accumulator, Implied, AtStack, Branch, Jump, JumpIndirect, Jsr, Brk, Txs, Cli}
-use Rattle.rules.specs.Basics.{if_then_else_, address}
-use Rattle.rules.specs.Opcodes.{Entry, undefined, alone, byte, word, late}
-use Rattle.rules.specs.Table.{table}
+use Rattle.rules.specs.declared.Instruction.the-variants.{Read, Store, Change, Accumulator, Implied, AtStack, Branch, Jump, JumpIndirect, Jsr, Brk, Txs, Cli, Undefined}
+use Rattle.rules.specs.Basics.{if_then_else_}
+use Rattle.rules.specs.Opcodes.{Entry, instructionOf}
 
 abbrev pub modeNumber : Mode → ℕ
-modeNumber (Immediate v) = 0
+modeNumber (IndirectX v) = 0
 modeNumber (Zero v) = 1
-modeNumber (ZeroX v) = 2
-modeNumber (ZeroY v) = 3
-modeNumber (Absolute v) = 4
-modeNumber (AbsoluteX v) = 5
-modeNumber (AbsoluteY v) = 6
-modeNumber (IndirectX v) = 7
-modeNumber (IndirectY v) = 8
+modeNumber (Immediate v) = 2
+modeNumber (Absolute low high) = 3
+modeNumber (IndirectY v) = 4
+modeNumber (ZeroX v) = 5
+modeNumber (AbsoluteY low high) = 6
+modeNumber (AbsoluteX low high) = 7
+modeNumber (ZeroY v) = 8
 modeNumber (IndirectBankY v) = 9
 
 abbrev pub readingNumber : Reading → ℕ
@@ -41,14 +40,14 @@ readingNumber Ora = 0
 readingNumber And = 1
 readingNumber Eor = 2
 readingNumber Adc = 3
-readingNumber Lda = 4
-readingNumber Cmp = 5
-readingNumber Sbc = 6
-readingNumber Ldx = 7
-readingNumber Ldy = 8
-readingNumber Cpx = 9
+readingNumber Bit = 4
+readingNumber Lda = 5
+readingNumber Cmp = 6
+readingNumber Sbc = 7
+readingNumber Ldx = 8
+readingNumber Ldy = 9
 readingNumber Cpy = 10
-readingNumber Bit = 11
+readingNumber Cpx = 11
 
 abbrev pub storingNumber : Storing → ℕ
 storingNumber Sta = 0
@@ -66,28 +65,28 @@ changingNumber Inc = 5
 abbrev pub internalNumber : Internal → ℕ
 internalNumber Clc = 0
 internalNumber Sec = 1
-internalNumber Sei = 2
-internalNumber Clv = 3
-internalNumber Cld = 4
-internalNumber Sed = 5
-internalNumber Tax = 6
-internalNumber Txa = 7
-internalNumber Tay = 8
-internalNumber Tya = 9
-internalNumber Tsx = 10
-internalNumber Inx = 11
-internalNumber Iny = 12
-internalNumber Dex = 13
-internalNumber Dey = 14
-internalNumber Nop = 15
+internalNumber Tsx = 2
+internalNumber Sei = 3
+internalNumber Tya = 4
+internalNumber Clv = 5
+internalNumber Cld = 6
+internalNumber Sed = 7
+internalNumber Txa = 8
+internalNumber Tax = 9
+internalNumber Dex = 10
+internalNumber Nop = 11
+internalNumber Dey = 12
+internalNumber Tay = 13
+internalNumber Iny = 14
+internalNumber Inx = 15
 
 abbrev pub stackingNumber : Stacking → ℕ
 stackingNumber Php = 0
 stackingNumber Plp = 1
 stackingNumber Pha = 2
 stackingNumber Pla = 3
-stackingNumber Rts = 4
-stackingNumber Rti = 5
+stackingNumber Rti = 4
+stackingNumber Rts = 5
 
 abbrev pub conditionNumber : Condition → ℕ
 conditionNumber Bpl = 0
@@ -107,40 +106,32 @@ number (Accumulator o) = 210 + changingNumber o
 number (Implied o) = 214 + internalNumber o
 number (AtStack o) = 230 + stackingNumber o
 number (Branch t v) = 236 + conditionNumber t
-number (Jump a) = 244
-number (JumpIndirect a) = 245
+number (Jump low high) = 244
+number (JumpIndirect low high) = 245
 number (Jsr low) = 246
 number Brk = 247
 number Txs = 248
 number Cli = 249
+number Undefined = 250
 
--- "the other 105 are undefined": 255
 unfoldable pub numberOf : Entry → ℕ
-numberOf undefined = 255
-numberOf (alone i) = number i
-numberOf (byte f) = number (f 0)
-numberOf (word f) = number (f 0)
-numberOf (late f) = number (f 0)
-
--- all entries, in the opcodes' order
-abbrev pub entries : List ℕ
-entries = map numberOf table
+numberOf e = number (instructionOf e 0 0)
 
 -- The way back: what stands at a number's place. The last of each kind is what a greater number is taken for.
 
 abbrev pub modes : ℕ → ℕ → List Mode
 modes low high =
-    Immediate low ∷ Zero low ∷ ZeroX low ∷ ZeroY low ∷ Absolute (address low high) ∷ AbsoluteX (address low high) ∷
-    AbsoluteY (address low high) ∷ IndirectX low ∷ IndirectY low ∷ []
+    IndirectX low ∷ Zero low ∷ Immediate low ∷ Absolute low high ∷ IndirectY low ∷ ZeroX low ∷ AbsoluteY low high ∷ AbsoluteX low high ∷
+    ZeroY low ∷ []
 
 abbrev pub modeOf : ℕ → ℕ → ℕ → Mode
 modeOf n low high = getD (modes low high) n (IndirectBankY low)
 
 abbrev pub readings : List Reading
-readings = Ora ∷ And ∷ Eor ∷ Adc ∷ Lda ∷ Cmp ∷ Sbc ∷ Ldx ∷ Ldy ∷ Cpx ∷ Cpy ∷ []
+readings = Ora ∷ And ∷ Eor ∷ Adc ∷ Bit ∷ Lda ∷ Cmp ∷ Sbc ∷ Ldx ∷ Ldy ∷ Cpy ∷ []
 
 abbrev pub readingOf : ℕ → Reading
-readingOf n = getD readings n Bit
+readingOf n = getD readings n Cpx
 
 abbrev pub storings : List Storing
 storings = Sta ∷ Stx ∷ []
@@ -155,16 +146,16 @@ abbrev pub changingOf : ℕ → Changing
 changingOf n = getD changings n Inc
 
 abbrev pub internals : List Internal
-internals = Clc ∷ Sec ∷ Sei ∷ Clv ∷ Cld ∷ Sed ∷ Tax ∷ Txa ∷ Tay ∷ Tya ∷ Tsx ∷ Inx ∷ Iny ∷ Dex ∷ Dey ∷ []
+internals = Clc ∷ Sec ∷ Tsx ∷ Sei ∷ Tya ∷ Clv ∷ Cld ∷ Sed ∷ Txa ∷ Tax ∷ Dex ∷ Nop ∷ Dey ∷ Tay ∷ Iny ∷ []
 
 abbrev pub internalOf : ℕ → Internal
-internalOf n = getD internals n Nop
+internalOf n = getD internals n Inx
 
 abbrev pub stackings : List Stacking
-stackings = Php ∷ Plp ∷ Pha ∷ Pla ∷ Rts ∷ []
+stackings = Php ∷ Plp ∷ Pha ∷ Pla ∷ Rti ∷ []
 
 abbrev pub stackingOf : ℕ → Stacking
-stackingOf n = getD stackings n Rti
+stackingOf n = getD stackings n Rts
 
 abbrev pub conditions : List Condition
 conditions = Bpl ∷ Bmi ∷ Bvc ∷ Bvs ∷ Bcc ∷ Bcs ∷ Bne ∷ []
@@ -173,11 +164,10 @@ abbrev pub conditionOf : ℕ → Condition
 conditionOf n = getD conditions n Beq
 
 abbrev pub singles : ℕ → ℕ → List Instruction
-singles low high =
-    Jump (address low high) ∷ JumpIndirect (address low high) ∷ Jsr low ∷ Brk ∷ Txs ∷ []
+singles low high = Jump low high ∷ JumpIndirect low high ∷ Jsr low ∷ Brk ∷ Txs ∷ Cli ∷ []
 
 abbrev pub singleOf : ℕ → ℕ → ℕ → Instruction
-singleOf n low high = getD (singles low high) n Cli
+singleOf n low high = getD (singles low high) n Undefined
 
 abbrev pub withMode : ℕ → Mode → Instruction
 withMode n m =
@@ -194,11 +184,3 @@ made n low high =
     else if ltb n 236 then AtStack (stackingOf (n - 230))
     else if ltb n 244 then Branch (conditionOf (n - 236)) low
     else singleOf (n - 244) low high
-
--- how many bytes are fetched before the instruction's own accesses: 3 of a, a,X, a,Y and both JMP, whose operand is an address
-unfoldable pub fetched : ℕ → ℕ
-fetched n =
-    if ltb n 84 then 2 else if ltb n 147 then 3 else if ltb n 210 then 2
-    else if ltb n 236 then 1
-    else if ltb n 244 then 2
-    else if ltb n 246 then 3 else if eqb n 246 then 2 else 1

@@ -1,9 +1,9 @@
 use Rattle.rules.specs.Table.{table}
-use Rattle.table.specs.Numbers.{number, numberOf}
-use Rattle.table.proofs.Decodes.{at-opcode}
+use Rattle.decode.specs.Numbers.{number, numberOf}
+use Rattle.decode.proofs.Decodes.{at-opcode}
 use borrow.Author.Needs.{needs}
-use Rattle.table.proofs.entry_of.Statement.{statement}
-use Rattle.table.proofs.entry_of.Tie as tie
+use Rattle.decode.proofs.table.entry_of.Statement.{statement}
+use Rattle.decode.proofs.table.entry_of.Tie as tie
 
 returns : tie.Need-returns
 unfolding table number numberOf
