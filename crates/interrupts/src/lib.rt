@@ -28,7 +28,7 @@ pub fn interrupt(vector: u16, state: &mut [u8], w: Wiring, image: &mut [u8], lis
     let s = state[state::S];
     let p = flags::byte_of(state::flags_of(state));
     two_reads(state, w, image, list, pc);
-    sequence::push_three(w, image, list, pc, s, p);
+    sequence::push_three(state, w, image, list, pc, s, p);
     sequence::enter(vector, state, w, image, list);
 }
 

@@ -3,21 +3,20 @@
 use wiring::Wiring;
 ghost use Prim.Native.Nat.{_<_};
 ghost use lib.ListN.{length};
-ghost use Rattle.rules.specs.declared.Bus.{Bus};
 ghost use Rattle.rules.specs.declared.State.{State};
 ghost use Rattle.rules.specs.Cycles.{execution};
 ghost use Rattle.rules.specs.Operations.{enter};
-ghost use Rattle.wiring.specs.Wiring.{Wired, Stands, Ready};
+ghost use Rattle.wiring.specs.Wiring.{Stands, Ready};
 ghost use Rattle.laws.specs.Goes.{Goes, Does};
 ghost use Rattle.sequence.specs.Pushes.{pushThree};
 
 // "push PC high, low, P"
-pub fn push_three(w: Wiring, image: &mut [u8], list: &mut [u8], pc: u16, s: u8, p: u8)
-    requires { ⌜ Ready w 16 (length (now image)) (length (now list)) ⌝ }
-    ensures { λ r. ⌜ ((u : Bus) → Wired execution w u → Goes (pushThree pc s p) 2 u (now (image .entry)) (now (list .entry)) tt 5 u (now (image .exit)) (now (list .exit))) ⌝ }
+pub fn push_three(state: &[u8], w: Wiring, image: &mut [u8], list: &mut [u8], pc: u16, s: u8, p: u8)
+    requires { ⌜ Ready w (length (now state)) (length (now image)) (length (now list)) ⌝ }
+    ensures { λ r. ⌜ ((t : State) → Stands execution t (now (state .entry)) w → Goes (pushThree pc s p) 2 (t .bus) (now (image .entry)) (now (list .entry)) tt 5 (t .bus) (now (image .exit)) (now (list .exit))) ⌝ }
 {
-    writes::push_pc(w, image, list, 2, pc, s);
-    writes::push(w, image, list, 4, bytes::down(2, s), p);
+    writes::push_pc(state, w, image, list, 2, pc, s);
+    writes::push(state, w, image, list, 4, bytes::down(2, s), p);
 }
 
 // How BRK, an interrupt and a reset end: S is lower by 3, "read the vector", "set I".

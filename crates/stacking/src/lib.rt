@@ -22,7 +22,7 @@ fn push(v: u8, state: &mut [u8], w: Wiring, image: &mut [u8], list: &mut [u8])
     ensures { λ r. ⌜ ((s : State) → Stands execution s (now (state .entry)) w → Does (push v (s .cpu)) 2 s (now (image .entry)) (now (list .entry)) 3 (now (state .exit)) (now (image .exit)) (now (list .exit))) ⌝ }
 {
     let s = state[state::S];
-    writes::push(w, image, list, 2, s, v);
+    writes::push(state, w, image, list, 2, s, v);
     state::set_s(state, bytes::down(1, s));
 }
 

@@ -1,5 +1,5 @@
 -- What a step knows of its bus before its first access, and when the sixteen bytes stand for a state.
-use Prim.Native.Nat.{ℕ, _+_, _*_, _%_, _≤_, _<_}
+use Prim.Native.Nat.{ℕ, _+_, _*_, _/_, _%_, _^_, _≤_, _<_}
 use mathlib.Core.Path.{_≡_}
 use mathlib.Core.Bool.{true}
 use mathlib.Core.List.{List}
@@ -31,13 +31,17 @@ pub record Sound (u : Bus) : Type 0 where
 abbrev pub baseOf : Bus → Bank → ℕ
 baseOf u κ = if is6509 (u .part) then selected u κ % u .banks * 65536 else 0
 
+-- "k banks of that size, k = 1, 2, 4, 8 or 16": an image whose banks are a power of two
+pub data Banked (size : ℕ) : Type 0 where
+  banked : (j : ℕ) → size ≡ 2 ^ j * 65536 → Banked size
+
 pub record Wired (κ : Bank) (w : Wiring) (u : Bus) : Type 0 where
   pub sound : Sound u
   pub pins : w .pins ≡ u .pins
-  pub banks : w .banks ≡ u .banks
+  pub banked : Banked (w .size)
+  pub banks : u .banks ≡ w .size / 65536
   pub bank : w .bank ≡ selected u κ
   pub plain : w .plain ≡ plainOf (u .part)
-  pub top : w .top + 256 * u .protected ≡ 65536
   pub base : w .base ≡ baseOf u κ
 
 -- the sixteen bytes r stand for the state s, whose accesses in the bank κ go by w
@@ -49,6 +53,6 @@ pub record Stands (κ : Bank) (s : State) (r : List ℕ) (w : Wiring) : Type 0 w
 pub record Ready (w : Wiring) (r i l : ℕ) : Type 0 where
   pub whole : r ≡ 16
   pub room : 56 ≤ l
-  pub base : w .base + 65536 ≤ w .banks * 65536
-  pub some : 1 ≤ w .banks
-  pub banks : w .banks * 65536 ≤ i
+  pub base : w .base + 65536 ≤ w .size
+  pub even : w .size % 65536 ≡ 0
+  pub image : w .size ≤ i

@@ -23,28 +23,30 @@ use Rattle.wiring.proofs.Cells.{cell-byte, below, cell-register}
 use Rattle.writes.specs.Left.{registered, putAt}
 
 -- "judged by the address on the bus"
-open-page : (c p top : ℕ) → top + 256 * c ≡ 65536 → p < top → isProtected c p ≡ false
-open-page c p top e l = lt-leb (256 - c) (p / 256) (omega arith)
+open-page : (c p : ℕ) → p / 256 + c < 256 → isProtected c p ≡ false
+open-page c p l = lt-leb (256 - c) (p / 256) (omega arith)
 
-shut-page : (c p top : ℕ) → top + 256 * c ≡ 65536 → top ≤ p → isProtected c p ≡ true
-shut-page c p top e l = le-leb (256 - c) (p / 256) (omega arith)
+shut-page : (c p : ℕ) → 256 ≤ p / 256 + c → isProtected c p ≡ true
+shut-page c p l = le-leb (256 - c) (p / 256) (omega arith)
 
 pub store-byte : {κ : Bank} {w : Wiring} {u : Bus} (i : List ℕ) (p v : ℕ) → Wired κ w u → (p < 2 → w .plain ≡ 0) →
-    stored images (world u i) κ p v ≡ world u (putAt w i p v)
+    stored images (world u i) κ p v ≡ world u (putAt (u .protected) w i p v)
 unfolding stored
-store-byte {κ} {w} {u} i p v q h = go (decLe (suc p) (w .top))
+store-byte {κ} {w} {u} i p v q h = go (decLe (suc (p / 256 + c)) 256)
   where
-    go : Dec (p < w .top) → stored images (world u i) κ p v ≡ world u (putAt w i p v)
+    c : ℕ
+    c = u .protected
+
+    go : Dec (p / 256 + c < 256) → stored images (world u i) κ p v ≡ world u (putAt c w i p v)
     go (yes y) =
-        rw (open-page (u .protected) p (w .top) (q .top) y, lt-ltb p (w .top) y, q .plain, q .base)
-        (rw (cell-byte κ u p (q .sound .part) (rw (q .plain) at h)))
-    go (no g) = rw (shut-page (u .protected) p (w .top) (q .top) (omega (arith, g)), le-ltb p (w .top) (omega (arith, g)))
+        rw (open-page c p y, lt-ltb (p / 256 + c) 256 y, q .plain, q .base) (rw (cell-byte κ u p (q .sound .part) (rw (q .plain) at h)))
+    go (no g) = rw (shut-page c p (omega (arith, g)), le-ltb (p / 256 + c) 256 (omega (arith, g)))
 
 pub store-register : {κ : Bank} {w : Wiring} {u : Bus} (i : List ℕ) (p v : ℕ) → Wired κ w u → p < 2 → 0 < w .plain →
     stored images (world u i) κ p v ≡ world (registered u p v) i
 unfolding stored
 store-register {κ} {w} {u} i p v q h some =
-    rw (open-page (u .protected) p (w .top) (q .top) (omega (arith, q .top, q .sound .pages)), cell-register κ u p (q .sound .part) h (rw (q .plain) at some))
+    rw (open-page (u .protected) p (omega (arith, q .sound .pages)), cell-register κ u p (q .sound .part) h (rw (q .plain) at some))
     (low-kept u i p v h)
   where
     low-kept : (u : Bus) (i : List ℕ) (p v : ℕ) → p < 2 → kept images (world u i) (if eqb p 0 then first else second) v ≡ world (registered u p v) i
@@ -70,7 +72,7 @@ pub write-register : {κ : Bank} {w : Wiring} {s : State} {r i l r′ l′ : Lis
 write-register {i = i} p v k h q some e d = wrote p v k _ h (store-register i p v (h .wired) q (omega arith)) e d
 
 pub write-byte : {κ : Bank} {w : Wiring} {s : State} {r i l i′ l′ : List ℕ} (p v k : ℕ) → Stands κ s r w → (p < 2 → w .plain ≡ 0) →
-    i′ ≡ putAt w i p v → l′ ≡ noted l k p (w .bank) v → Writes κ p v k s i l r i′ l′
+    i′ ≡ putAt (s .bus .protected) w i p v → l′ ≡ noted l k p (w .bank) v → Writes κ p v k s i l r i′ l′
 write-byte {i = i} p v k h q e d = wrote p v k _ h (store-byte i p v (h .wired) q ∙ (rw e)) (h .bytes) d
 
 pub plain-above : {κ : Bank} {w : Wiring} {s : State} {r : List ℕ} {p : ℕ} → Stands κ s r w → w .plain ≤ p → p < 2 → w .plain ≡ 0

@@ -4,13 +4,12 @@ use wiring::Wiring;
 ghost use Prim.Native.Nat.{_+_, _≤_, _<_};
 ghost use mathlib.Core.Path.{_≡_};
 ghost use lib.ListN.{length};
-ghost use Rattle.rules.specs.declared.Bus.{Bus};
 ghost use Rattle.rules.specs.declared.State.{State};
 ghost use Rattle.rules.specs.Cycles.{Bank, execution, done, write};
 ghost use Rattle.rules.specs.Operations.{pushPc};
 ghost use Rattle.rules.specs.Bus.{narrow};
 ghost use Rattle.rules.specs.Record.{recordOf};
-ghost use Rattle.wiring.specs.Wiring.{Wired, Stands, Ready};
+ghost use Rattle.wiring.specs.Wiring.{Stands, Ready};
 ghost use Rattle.laws.specs.Goes.{Goes, Writes};
 ghost use Rattle.laws.specs.States.{moved};
 ghost use Rattle.writes.specs.Left.{registered, putAt};
@@ -35,11 +34,11 @@ fn set_register(state: &mut [u8], a: u16, v: u8)
 }
 
 // "a write there is listed and changes nothing": in a protected page.
-fn put(w: Wiring, image: &mut [u8], a: u16, v: u8)
-    requires { ⌜ (65536 ≤ length (now image)) × (w .base + 65536 ≤ length (now image)) ⌝ }
-    ensures { λ r. ⌜ now (image .exit) ≡ putAt w (now (image .entry)) a v ⌝ }
+fn put(pages: u8, w: Wiring, image: &mut [u8], a: u16, v: u8)
+    requires { ⌜ w .base + 65536 ≤ length (now image) ⌝ }
+    ensures { λ r. ⌜ now (image .exit) ≡ putAt pages w (now (image .entry)) a v ⌝ }
 {
-    if (a as u32) < w.top {
+    if a / 256 + (pages as u16) < 256 {
         if a < w.plain {
             image[(a % 256) as usize] = v;
             return;
@@ -63,31 +62,39 @@ pub fn write(
 {
     listing::note(list, k, a, w.bank, v, 1);
     if w.plain <= a {
-        put(w, image, a, v);
+        put(state[11], w, image, a, v);
         return;
     }
     if a < 2 {
         set_register(state, a, v);
         return;
     }
-    put(w, image, a, v);
+    put(state[11], w, image, a, v);
 }
 
 // One write cycle at the stack, where no part has a register.
-pub fn push(w: Wiring, image: &mut [u8], list: &mut [u8], k: usize, s: u8, v: u8)
-    requires { ⌜ (k < 7) × Ready w 16 (length (now image)) (length (now list)) ⌝ }
-    ensures { λ r. ⌜ ((u : Bus) (κ : Bank) → Wired κ w u → Goes {A = Unit {0}} (write κ (256 + s) v (done tt)) k u (now (image .entry)) (now (list .entry)) tt (k + 1) u (now (image .exit)) (now (list .exit))) ⌝ }
+pub fn push(state: &[u8], w: Wiring, image: &mut [u8], list: &mut [u8], k: usize, s: u8, v: u8)
+    requires { ⌜ (k < 7) × Ready w (length (now state)) (length (now image)) (length (now list)) ⌝ }
+    ensures { λ r. ⌜ ((t : State) (κ : Bank) → Stands κ t (now (state .entry)) w → Goes {A = Unit {0}} (write κ (256 + s) v (done tt)) k (t .bus) (now (image .entry)) (now (list .entry)) tt (k + 1) (t .bus) (now (image .exit)) (now (list .exit))) ⌝ }
 {
     let a = 256 + s as u16;
     listing::note(list, k, a, w.bank, v, 1);
-    put(w, image, a, v);
+    put(state[11], w, image, a, v);
 }
 
 // "push PC high, low"
-pub fn push_pc(w: Wiring, image: &mut [u8], list: &mut [u8], k: usize, pc: u16, s: u8)
-    requires { ⌜ (k < 6) × Ready w 16 (length (now image)) (length (now list)) ⌝ }
-    ensures { λ r. ⌜ ((u : Bus) → Wired execution w u → Goes (pushPc pc s) k u (now (image .entry)) (now (list .entry)) tt (k + 2) u (now (image .exit)) (now (list .exit))) ⌝ }
+pub fn push_pc(state: &[u8], w: Wiring, image: &mut [u8], list: &mut [u8], k: usize, pc: u16, s: u8)
+    requires { ⌜ (k < 6) × Ready w (length (now state)) (length (now image)) (length (now list)) ⌝ }
+    ensures { λ r. ⌜ ((t : State) → Stands execution t (now (state .entry)) w → Goes (pushPc pc s) k (t .bus) (now (image .entry)) (now (list .entry)) tt (k + 2) (t .bus) (now (image .exit)) (now (list .exit))) ⌝ }
 {
-    push(w, image, list, k, s, (pc / 256) as u8);
-    push(w, image, list, k + 1, bytes::down(1, s), (pc % 256) as u8);
+    push(state, w, image, list, k, s, (pc / 256) as u8);
+    push(
+        state,
+        w,
+        image,
+        list,
+        k + 1,
+        bytes::down(1, s),
+        (pc % 256) as u8,
+    );
 }

@@ -8,12 +8,20 @@ use Rattle.interrupts.proofs.interrupt.Tie as tie
 
 returns : tie.Need-returns
 unfolding interrupt _>>=_
-returns c = λ s h.
-    let pc = c .before .before .before .before .before .before .before .before .before .before .before .before .before .before .before .before .before .before .before .before .before .before .before .before .before .pc-of .ensures s (h .bytes) in
+returns c =
+    let at-enter = c .before .before .before .before in
+    let to-push-three = at-enter .before .before .before .before .before .before in
+    let at-push-three = to-push-three .before .before in
+    let at-two-reads = at-push-three .before .before .before .before .before .before in
+    let at-byte-of = at-two-reads .before .before .before .before in
+    let at-flags-of = at-byte-of .before in
+    let at-pc-of = at-flags-of .before .before .before in
+    λ s h.
+    let pc = at-pc-of .pc-of .ensures s (h .bytes) in
     let sp = s-of s (h .bytes) in
-    let p = rw (c .before .before .before .before .before .before .before .before .before .before .before .before .before .before .before .before .before .before .before .before .before .before .flags-of .ensures s (h .bytes)) at (c .before .before .before .before .before .before .before .before .before .before .before .before .before .before .before .before .before .before .before .before .before .byte-of .ensures) in
-    do-does _ (rw pc at (c .before .before .before .before .before .before .before .before .before .before .before .before .before .before .before .before .before .two-reads .ensures s h))
-    (do-does _ (rw (pc, sp, p) at (c .before .before .before .before .before .before .before .before .before .before .before .before .push-three .ensures (s .bus) (h .wired))) (c .before .before .before .before .enter .ensures s h))
+    let p = rw (at-flags-of .flags-of .ensures s (h .bytes)) at (at-byte-of .byte-of .ensures) in
+    do-does _ (rw pc at (at-two-reads .two-reads .ensures s h))
+    (do-does _ (rw (pc, sp, p) at (at-push-three .push-three .ensures s h)) (at-enter .enter .ensures s h))
 
 pub interrupt-spec : {M : Type 1} → statement M
 interrupt-spec =

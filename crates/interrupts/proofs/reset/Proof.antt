@@ -8,11 +8,16 @@ use Rattle.interrupts.proofs.reset.Tie as tie
 
 returns : tie.Need-returns
 unfolding reset _>>=_
-returns c = λ s h.
-    let pc = c .before .before .before .before .before .before .before .before .before .before .before .before .before .before .before .before .before .before .pc-of .ensures s (h .bytes) in
+returns c =
+    let at-enter = c .before .before .before .before in
+    let at-three-reads = at-enter .before .before .before .before .before in
+    let at-two-reads = at-three-reads .before .before .before .before .before in
+    let at-pc-of = at-two-reads .before .before .before .before in
+    λ s h.
+    let pc = at-pc-of .pc-of .ensures s (h .bytes) in
     let sp = s-of s (h .bytes) in
-    do-does _ (rw pc at (c .before .before .before .before .before .before .before .before .before .before .before .before .before .before .two-reads .ensures s h))
-    (do-does _ (rw sp at (c .before .before .before .before .before .before .before .before .before .three-reads .ensures s h)) (c .before .before .before .before .enter .ensures s h))
+    do-does _ (rw pc at (at-two-reads .two-reads .ensures s h))
+    (do-does _ (rw sp at (at-three-reads .three-reads .ensures s h)) (at-enter .enter .ensures s h))
 
 pub reset-spec : {M : Type 1} → statement M
 reset-spec =

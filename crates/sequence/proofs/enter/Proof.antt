@@ -10,15 +10,28 @@ use Rattle.sequence.proofs.enter.Statement.{statement}
 use Rattle.sequence.proofs.enter.Tie as tie
 
 set-pc-requires : tie.Need-set-pc-requires
-set-pc-requires c κs = c .before .before .before .set-s .kept .0 ∙ (c .before .before .before .before .before .before .before .before .set-flags .kept .0 ∙ c .before .before .before .before .before .before .before .before .before .before .before .before .before .before .before .before .before .before .before .before .before .before .pre .1 .whole)
+set-pc-requires c κs =
+    let at-set-s = c .before .before .before in
+    let at-set-flags = at-set-s .before .before .before .before .before in
+    let to-start = at-set-flags .before .before .before .before .before .before in
+    let to-start′ = to-start .before .before .before .before .before .before in
+    let start = to-start′ .before .before in
+    at-set-s .set-s .kept .0 ∙ (at-set-flags .set-flags .kept .0 ∙ start .pre .1 .whole)
 
 returns : tie.Need-returns
 unfolding enter _>>=_
-returns c = λ s h.
+returns c =
+    let at-set-s = c .before .before .before .before .before .before in
+    let at-down = at-set-s .before in
+    let at-set-flags = at-down .before .before .before .before in
+    let at-word-at = at-set-flags .before .before .before .before in
+    let at-with-i = at-word-at .before .before .before in
+    let at-flags-of = at-with-i .before in
+    λ s h.
     let sp = s-of s (h .bytes) in
-    let lowered = c .before .before .before .before .before .before .set-s .ensures _ (c .before .before .before .before .before .before .before .before .before .before .before .set-flags .ensures s (h .bytes)) in
-    does s (rw (c .before .before .before .before .before .before .before .down .ensures, c .before .before .before .before .before .before .before .before .before .before .before .before .before .before .before .before .before .before .with-i .ensures, c .before .before .before .before .before .before .before .before .before .before .before .before .before .before .before .before .before .before .before .flags-of .ensures s (h .bytes), sp) at (c .before .before .set-pc .ensures _ lowered))
-    (then-call (λ a. done (withPc a (withP (withI true (s .cpu .p)) (withS (down 3 (s .cpu .s)) (s .cpu))))) (c .before .before .before .before .before .before .before .before .before .before .before .before .before .before .before .word-at .ensures s h) ended)
+    let lowered = at-set-s .set-s .ensures _ (at-set-flags .set-flags .ensures s (h .bytes)) in
+    does s (rw (at-down .down .ensures, at-with-i .with-i .ensures, at-flags-of .flags-of .ensures s (h .bytes), sp) at (c .before .before .set-pc .ensures _ lowered))
+    (then-call (λ a. done (withPc a (withP (withI true (s .cpu .p)) (withS (down 3 (s .cpu .s)) (s .cpu))))) (at-word-at .word-at .ensures s h) ended)
 
 pub enter-spec : {M : Type 1} → statement M
 enter-spec =

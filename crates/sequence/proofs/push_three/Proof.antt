@@ -6,7 +6,12 @@ use Rattle.sequence.proofs.push_three.Tie as tie
 
 returns : tie.Need-returns
 unfolding _>>=_
-returns c = λ u q. then-do _ (c .before .before .before .before .before .before .before .before .before .before .before .before .push-pc .ensures u q) (rw (c .before .before .before .before .before .down .ensures) at (c .before .before .before .before .push .ensures u execution q))
+returns c =
+    let at-push = c .before .before .before .before in
+    let at-down = at-push .before in
+    let to-push-pc = at-down .before .before .before .before .before .before in
+    let at-push-pc = to-push-pc .before in
+    λ t h. then-do _ (at-push-pc .push-pc .ensures t h) (rw (at-down .down .ensures) at (at-push .push .ensures t execution h))
 
 pub push-three-spec : {M : Type 1} → statement M
 push-three-spec =

@@ -11,11 +11,15 @@ use Rattle.stacking.proofs.pla.Tie as tie
 
 returns : tie.Need-returns
 unfolding pull _>>=_ recordOf
-returns c = λ s h.
+returns c =
+    let at-set-s = c .before .before .before .before .before .before in
+    let at-up = at-set-s .before in
+    let at-pulled = at-up .before .before .before .before in
+    λ s h.
     let sp = s-of s (h .bytes) in
-    does s {c = toA (c .before .before .before .before .before .before .before .before .before .before .before .pulled .result) (withS (sum8 (s .cpu .s) 1) (s .cpu))}
-    (rw (c .before .before .before .before .before .before .before .up .ensures, sp) at (c .before .before .to .ensures (moved (withS _ (s .cpu)) (s .bus) s) (c .before .before .before .before .before .before .set-s .ensures s (h .bytes))))
-    (then-call (λ v. done (toA v (withS (sum8 (s .cpu .s) 1) (s .cpu)))) (rw sp at (c .before .before .before .before .before .before .before .before .before .before .before .pulled .ensures s h)) ended)
+    does s {c = toA (at-pulled .pulled .result) (withS (sum8 (s .cpu .s) 1) (s .cpu))}
+    (rw (at-up .up .ensures, sp) at (c .before .before .to .ensures (moved (withS _ (s .cpu)) (s .bus) s) (at-set-s .set-s .ensures s (h .bytes))))
+    (then-call (λ v. done (toA v (withS (sum8 (s .cpu .s) 1) (s .cpu)))) (rw sp at (at-pulled .pulled .ensures s h)) ended)
 
 pub pla-spec : {M : Type 1} → statement M
 pla-spec =

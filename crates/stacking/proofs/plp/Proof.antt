@@ -11,10 +11,15 @@ use Rattle.stacking.proofs.plp.Tie as tie
 
 returns : tie.Need-returns
 unfolding pull _>>=_
-returns c = λ s h.
+returns c =
+    let at-flags-of = c .before .before .before in
+    let at-set-s = at-flags-of .before .before .before .before in
+    let at-up = at-set-s .before in
+    let at-pulled = at-up .before .before .before .before in
+    λ s h.
     let sp = s-of s (h .bytes) in
-    does s (rw (c .before .before .before .flags-of .ensures, c .before .before .before .before .before .before .before .before .up .ensures, sp) at (c .before .before .set-flags .ensures (moved (withS _ (s .cpu)) (s .bus) s) (c .before .before .before .before .before .before .before .set-s .ensures s (h .bytes))))
-    (then-call (λ p. done (withP (flagsOf p) (withS (sum8 (s .cpu .s) 1) (s .cpu)))) (rw sp at (c .before .before .before .before .before .before .before .before .before .before .before .before .pulled .ensures s h)) ended)
+    does s (rw (at-flags-of .flags-of .ensures, at-up .up .ensures, sp) at (c .before .before .set-flags .ensures (moved (withS _ (s .cpu)) (s .bus) s) (at-set-s .set-s .ensures s (h .bytes))))
+    (then-call (λ p. done (withP (flagsOf p) (withS (sum8 (s .cpu .s) 1) (s .cpu)))) (rw sp at (at-pulled .pulled .ensures s h)) ended)
 
 pub plp-spec : {M : Type 1} → statement M
 plp-spec =

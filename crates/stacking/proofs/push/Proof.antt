@@ -8,10 +8,13 @@ use Rattle.stacking.proofs.push.Tie as tie
 
 returns : tie.Need-returns
 unfolding push _>>=_
-returns c = λ s h.
+returns c =
+    let at-down = c .before .before .before in
+    let at-push = at-down .before .before .before .before .before .before in
+    λ s h.
     let sp = s-of s (h .bytes) in
-    does s (rw (c .before .before .before .down .ensures, sp) at (c .before .before .set-s .ensures s (h .bytes)))
-    (then-write _ (rw sp at (c .before .before .before .before .before .before .before .before .before .push .ensures (s .bus) execution (h .wired))) ended)
+    does s (rw (at-down .down .ensures, sp) at (c .before .before .set-s .ensures s (h .bytes)))
+    (then-write _ (rw sp at (at-push .push .ensures s execution h)) ended)
 
 pub push-spec : {M : Type 1} → statement M
 push-spec =

@@ -9,12 +9,19 @@ use Rattle.stacking.proofs.rts.Tie as tie
 
 returns : tie.Need-returns
 unfolding rts _>>=_
-returns c = λ s h.
+returns c =
+    let at-wrapping-add-u16 = c .before .before .before in
+    let at-up = at-wrapping-add-u16 .before in
+    let at-read2 = at-up .before .before .before .before in
+    let at-word-above = at-read2 .before .before .before .before .before in
+    let at-read = at-word-above .before .before .before .before .before in
+    let at-stack = at-read .before in
+    λ s h.
     let sp = s-of s (h .bytes) in
-    does s (rw (c .before .before .before .wrapping-add-u16 .ensures, c .before .before .before .before .up .ensures, sp) at (c .before .before .set-s-pc .ensures s (h .bytes)))
-    (then-read _ (rw (c .before .before .before .before .before .before .before .before .before .before .before .before .before .before .before .before .before .before .before .stack .ensures, sp) at (c .before .before .before .before .before .before .before .before .before .before .before .before .before .before .before .before .before .before .read .ensures s execution h))
-    (then-call (λ a. read execution a (λ v. done (withPc (sum16 a 1) (withS (sum8 (s .cpu .s) 2) (s .cpu))))) (rw sp at (c .before .before .before .before .before .before .before .before .before .before .before .before .before .word-above .ensures s h))
-    (then-read _ (c .before .before .before .before .before .before .before .before .read2 .ensures s execution h) ended)))
+    does s (rw (at-wrapping-add-u16 .wrapping-add-u16 .ensures, at-up .up .ensures, sp) at (c .before .before .set-s-pc .ensures s (h .bytes)))
+    (then-read _ (rw (at-stack .stack .ensures, sp) at (at-read .read .ensures s execution h))
+    (then-call (λ a. read execution a (λ v. done (withPc (sum16 a 1) (withS (sum8 (s .cpu .s) 2) (s .cpu))))) (rw sp at (at-word-above .word-above .ensures s h))
+    (then-read _ (at-read2 .read2 .ensures s execution h) ended)))
 
 pub rts-spec : {M : Type 1} → statement M
 rts-spec =

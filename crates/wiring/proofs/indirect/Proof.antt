@@ -9,7 +9,7 @@ use Rattle.wiring.proofs.indirect.Tie as tie
 returns : tie.Need-returns
 unfolding selected recordOf
 returns c = (
-  (c .base-of .ensures .1, refl),
+  (c .base-of .ensures .0, refl),
   λ s h.
       let nine : s .bus .part ≡ 9 = rw (h .bytes) at (c .before .before .if1 .taken) in
       record {
@@ -18,11 +18,11 @@ returns c = (
             record {
               sound = h .wired .sound;
               pins = h .wired .pins;
+              banked = h .wired .banked;
               banks = h .wired .banks;
               bank = rw (h .bytes, nine);
               plain = h .wired .plain;
-              top = h .wired .top;
-              base = rw nine (rw (h .bytes, h .wired .banks) at (c .base-of .ensures .0));
+              base = rw (nine, h .wired .banks) (rw (h .bytes) at (c .base-of .ensures .1 (h .wired .banked)));
             };
       },
 )
@@ -30,7 +30,7 @@ returns c = (
 returns-2 : tie.Need-returns-2
 unfolding selected recordOf
 returns-2 c = (
-  (c .before .before .before .pre .2, refl),
+  (c .before .before .before .pre .0 .1, refl),
   λ s h.
       let other : s .bus .part ≡ 9 → ⊥ = rw (h .bytes) at (c .if1 .left) in
       record {
@@ -39,10 +39,10 @@ returns-2 c = (
             record {
               sound = h .wired .sound;
               pins = h .wired .pins;
+              banked = h .wired .banked;
               banks = h .wired .banks;
               bank = rw (ne-eqb _ 9 other) (rw (ne-eqb _ 9 other) at (h .wired .bank));
               plain = h .wired .plain;
-              top = h .wired .top;
               base = rw (ne-eqb _ 9 other) (rw (ne-eqb _ 9 other) at (h .wired .base));
             };
       },

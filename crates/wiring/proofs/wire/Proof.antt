@@ -1,4 +1,3 @@
-use native.Mathlib.Omega.{arith}
 use mathlib.Core.Path.{_≡_, sym, refl, _∙_}
 use borrow.Author.Tests.{ne-eqb}
 use Rattle.rules.specs.Bus.{selected}
@@ -11,8 +10,8 @@ use Rattle.wiring.proofs.wire.Tie as tie
 returns : tie.Need-returns
 unfolding selected recordOf
 returns c = (
-  (c .base-of .ensures .1, refl),
-  λ s e q p b.
+  (c .base-of .ensures .0, refl),
+  λ s e q k p b.
       let nine : s .bus .part ≡ 9 = rw e at (c .before .before .if1 .taken) in
       record {
         bytes = e;
@@ -20,11 +19,11 @@ returns c = (
             record {
               sound = q;
               pins = sym p;
-              banks = sym b;
+              banked = k;
+              banks = b;
               bank = rw (e, nine);
               plain = rw nine;
-              top = rw e at (c .before .before .before .top-of .ensures);
-              base = rw nine (rw (e, ← b) at (c .base-of .ensures .0));
+              base = rw (nine, b) (rw e at (c .base-of .ensures .1 k));
             };
       },
 )
@@ -32,8 +31,8 @@ returns c = (
 returns-2 : tie.Need-returns-2
 unfolding selected recordOf
 returns-2 c = (
-  (omega (arith, c .before .before .before .before .before .before .pre .1), refl),
-  λ s e q p b.
+  (c .before .before .before .before .pre .1, refl),
+  λ s e q k p b.
       let other : s .bus .part ≡ 9 → ⊥ = rw e at (c .before .if1 .left) in
       record {
         bytes = e;
@@ -41,10 +40,10 @@ returns-2 c = (
             record {
               sound = q;
               pins = sym p;
-              banks = sym b;
+              banked = k;
+              banks = b;
               bank = rw (ne-eqb _ 9 other);
               plain = rw e at (c .plain-of .ensures) ∙ plain-is (s .bus .part) (q .part) other;
-              top = rw e at (c .before .before .top-of .ensures);
               base = rw (ne-eqb _ 9 other);
             };
       },
@@ -55,8 +54,6 @@ wire-spec =
     tie.close
     (tie.spec
     (λ c. search needs)
-    (λ c. search needs)
-    (λ c κs. search needs)
     (λ c. search needs)
     (λ c κs. search needs)
     returns
