@@ -1,5 +1,5 @@
 -- A step is a run of one.
-use Prim.Native.Nat.{ℕ, _+_, _%_, _≤_}
+use Prim.Native.Nat.{ℕ, _+_, _≤_}
 use native.Mathlib.Omega.{arith}
 use mathlib.Core.Path.{_≡_, refl, sym, ap, _∙_}
 use mathlib.Core.List.{List, [], _∷_}
@@ -17,7 +17,7 @@ use Rattle.rules.specs.Bus.{images}
 use Rattle.rules.specs.Step.{Outcome, refused, stepTests, step}
 use Rattle.rules.specs.Run.{start, goesOn, play, runOf}
 use Rattle.laws.proofs.Steps.{lawful}
-use Rattle.words.proofs.Laws.{numbered}
+use Rattle.words.proofs.Laws.{nonzero}
 use Rattle.checks.specs.declared.Checked.{Checked}
 use Rattle.checks.specs.declared.Checked.the-variants as checked
 use Rattle.checks.specs.Checks.{fitOf}
@@ -37,7 +37,7 @@ wordOf (w, t) = if eqb w 0 then packed (record { number = 0; small = at t 1; lar
 
 its-word : (a : StepAnswer) → wordOf (tallied (alone a)) ≡ stepWord a
 its-word (Stepped n) = refl
-its-word (Refused e) = rw (ne-eqb (refusalWord e) 0 (λ h. numbered e (ap (λ (n : ℕ). n % 256) h)))
+its-word (Refused e) = rw (ne-eqb (refusalWord e) 0 (nonzero e))
 
 module _ (r m l : List ℕ) (lines pins : ℕ) where
   abbrev script : List ℕ
@@ -53,7 +53,9 @@ module _ (r m l : List ℕ) (lines pins : ℕ) where
       go : (a : StepAnswer) → o .answer ≡ a →
           goesOn images (play images []) (start images r m script l) o a ≡ left (alone a) (o .state) (o .image) (o .accesses)
       go (Stepped n) e = let z : 0 + n ≡ n = omega arith in (rw z)
-      go (Refused d) e = (λ j. let q = sym (lawful images r m lines pins l .stays d e) j in left (Stopped 0 0 d) (q .state) (q .image) (q .accesses))
+      go (Refused d) e =
+          let same = sym (lawful images r m lines pins l .stays d e) in
+          λ j. let q = same j in left (Stopped 0 0 d) (q .state) (q .image) (q .accesses)
 
   step-unfit : (e : Refusal) → checked.Refused e ≡ fitOf r m → left (Refused e) r m l ≡ o
   unfolding step

@@ -1,9 +1,11 @@
 -- A word tells a refusal from an answer.
-use Prim.Native.Nat.{_%_}
+use Prim.Native.Nat.{ℕ, _%_}
 use native.Mathlib.Omega.{arith}
-use mathlib.Core.Path.{_≡_}
+use mathlib.Core.Path.{_≡_, ap}
 use Rattle.rules.specs.declared.Refusal.{Refusal}
-use Rattle.rules.specs.declared.Refusal.the-variants.{RecordLength, Malformed, ImageLength, Lines, Room, Undefined, ScriptLength, FileLength, Admission, MapRecord, Vectors, Place, StoreAddress, Stack, Successor, ListLength, ListRecord, Total}
+use Rattle.rules.specs.declared.Refusal.the-variants.{RecordLength, Malformed, ImageLength, Lines, Room, Undefined, ScriptLength}
+use Rattle.rules.specs.declared.Refusal.the-variants.{FileLength, Admission, MapRecord, Vectors, Place, StoreAddress, Stack}
+use Rattle.rules.specs.declared.Refusal.the-variants.{Successor, ListLength, ListRecord, Total}
 use Rattle.rules.specs.Answers.{refusalWord}
 
 -- a refusal's number is not 0
@@ -26,3 +28,7 @@ numbered (Successor i) h = absurd (omega (arith, h))
 numbered ListLength h = absurd (omega (arith, h))
 numbered ListRecord h = absurd (omega (arith, h))
 numbered Total h = absurd (omega (arith, h))
+
+-- and so its word is not 0
+pub nonzero : (d : Refusal) → refusalWord d ≡ 0 → ⊥
+nonzero d h = numbered d (ap (λ (n : ℕ). n % 256) h)
