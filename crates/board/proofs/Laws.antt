@@ -1,4 +1,4 @@
--- What follows of every word and every buffer that fit the contract of `wankitare_step`, which is taken as it stands in the crate and is no copy.
+-- What follows of every word and every buffer that fit the contract of `wankitare_step`, taken as it stands in the crate.
 use Prim.Native.Nat.{ℕ, _/_, _%_}
 use native.Mathlib.Omega.{arith}
 use mathlib.Core.Path.{_≡_, refl, sym, ap, subst, _∙_}
@@ -53,7 +53,8 @@ module _ (κs : Lfts 3) (a : Dens κs kinds.ps) (x : ℕ) (t : AtExit (endedOf 3
 
   -- the word's count is the number of accesses and what was added to the record's count; the record stays well formed, of the same part and
   -- protected pages; the accesses are the buffer's front and its later bytes stay
-  pub stepped-counts : reads.Post κs a x t → x % 256 ≡ 0 → Done images r i (a .1 .1 .0) (a .1 .1 .1 .0) l (after (Stepped (x / 256))) (x / 256)
+  pub stepped-counts : reads.Post κs a x t → x % 256 ≡ 0 →
+      Done images r i (a .1 .1 .0) (a .1 .1 .1 .0) l (after (Stepped (x / 256))) (x / 256)
   stepped-counts p h =
       let e = counted (o .answer) ((λ j. sym p j .answer % 256) ∙ h) ∙ (λ j. Stepped (sym p j .answer / 256)) in
       subst (λ (w : Outcome StepAnswer (List ℕ)). Done images r i (a .1 .1 .0) (a .1 .1 .1 .0) l w (x / 256))
