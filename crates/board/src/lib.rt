@@ -1,19 +1,14 @@
-// The exported functions: numbers and byte slices in, one word out.
+// The functions that a blade's board calls: numbers and byte slices in, one word out.
 
 use rules::AppendAnswer;
-use rules::CountAnswer;
 use rules::Numbers;
 use rules::RestartAnswer;
-use rules::Verdict;
 ghost use mathlib.Core.Path.{_≡_};
-ghost use Rattle.rules.specs.Answers.{stepWord, runWords, restartWord, appendWord, verdictWord};
+ghost use Rattle.rules.specs.Answers.{stepWord, runWords, restartWord, appendWord};
 ghost use Rattle.rules.specs.Bus.{images};
 ghost use Rattle.rules.specs.Step.{step};
 ghost use Rattle.rules.specs.Run.{runOf};
 ghost use Rattle.rules.specs.Restart.{restart, appendAt};
-ghost use Rattle.rules.specs.Pages.{pageWords, fed};
-ghost use Rattle.admission_rules.specs.Admission.{admit};
-ghost use Rattle.admission_rules.specs.Safety.{Safe, PlaysOut};
 ghost use Rattle.step.specs.Parts.{left};
 ghost use Rattle.run.specs.Words.{worded};
 
@@ -26,7 +21,8 @@ pub extern "C" fn wankitare_step(
     pins: u8,
     accesses: &mut [u8],
 ) -> u64
-    ensures { λ r. ⌜ left r (now (state .exit)) (now (image .exit)) (now (accesses .exit)) ≡ worded stepWord (step images (now (state .entry)) (now (image .entry)) lines pins (now (accesses .entry))) ⌝ }
+    ensures { λ r. ⌜ left r (now (state .exit)) (now (image .exit)) (now (accesses .exit))
+        ≡ worded stepWord (step images (now (state .entry)) (now (image .entry)) lines pins (now (accesses .entry))) ⌝ }
 {
     let script = [lines, pins];
     let mut tally = [0, 0];
@@ -50,7 +46,9 @@ pub extern "C" fn wankitare_run(
     steps: &mut u64,
     listed: &mut u64,
 ) -> u64
-    ensures { λ r. ⌜ left (record { word = r; steps = now (steps .exit); listed = now (listed .exit) }) (now (state .exit)) (now (image .exit)) (now (accesses .exit)) ≡ worded runWords (runOf images (now (state .entry)) (now (image .entry)) (now (script .entry)) (now (accesses .entry))) ⌝ }
+    ensures { λ r. ⌜ left (record { word = r; steps = now (steps .exit); listed = now (listed .exit) })
+        (now (state .exit)) (now (image .exit)) (now (accesses .exit))
+        ≡ worded runWords (runOf images (now (state .entry)) (now (image .entry)) (now (script .entry)) (now (accesses .entry))) ⌝ }
 {
     let mut tally = [0, 0];
     let word = run::run(state, image, script, accesses, &mut tally);
@@ -84,32 +82,5 @@ pub extern "C" fn wankitare_append_at(file_len: u64) -> u64
             large: place,
         }),
         AppendAnswer::Full(e) => words::refusal_word(e),
-    }
-}
-
-// Demand 3: 0 promises that the image is safe.
-#[no_mangle]
-pub extern "C" fn wankitare_admit(image: &[u8], c: u8, map: &[u8]) -> u64
-    ensures exact { λ r. ⌜ r ≡ verdictWord (admit images (now (image .entry)) c (now (map .entry))) ⌝ }
-    ensures safe { λ r. ⌜ (r ≡ 0 → Safe (now (image .entry)) c (now (map .entry))) ⌝ }
-    ensures plays { λ r. ⌜ (r ≡ 0 → PlaysOut (now (image .entry)) c (now (map .entry))) ⌝ }
-{
-    match admission::admit(image, c, map) {
-        Verdict::Accepted => 0,
-        Verdict::Barred(e) => words::refusal_word(e),
-    }
-}
-
-#[no_mangle]
-pub extern "C" fn wankitare_pages(
-    reads: &mut [u64; 256],
-    writes: &mut [u64; 256],
-    accesses: &[u8],
-) -> u64
-    ensures { λ r. ⌜ record { word = r; reads = now (reads .exit); writes = now (writes .exit) } ≡ pageWords (fed (now (reads .entry)) (now (writes .entry)) (now (accesses .entry))) ⌝ }
-{
-    match pages::feed(reads, writes, accesses) {
-        CountAnswer::Counted => 0,
-        CountAnswer::Uncounted(e) => words::refusal_word(e),
     }
 }

@@ -1,10 +1,9 @@
--- No second word, number or buffer fits the contract of an exported function.
+-- No second word, number or buffer fits the contract of a function that the board calls.
 use Prim.Native.Nat.{ℕ}
 use mathlib.Core.Path.{refl, sym, ap, _∙_}
 use mathlib.Core.List.{List}
 use Rattle.rules.specs.Answers.{RunWords}
 use Rattle.rules.specs.Step.{Outcome}
-use Rattle.rules.specs.Pages.{PageWords}
 use Rattle.board.proofs as its
 use Rattle.unique.proofs.General.{Unique, answer}
 
@@ -27,13 +26,3 @@ wankitare-restart κs a x y = answer refl
 
 pub wankitare-append-at : Unique its.wankitare_append_at.Kinds.ps its.wankitare_append_at.Kinds.r its.wankitare_append_at.Reads.Post
 wankitare-append-at κs a x y = answer refl
-
-pub wankitare-admit : Unique its.wankitare_admit.Kinds.ps its.wankitare_admit.Kinds.r its.wankitare_admit.Reads.Post
-wankitare-admit κs a x y p q = answer refl (p .0) (q .0)
-
--- the word and the counts, each in the place of its parameter
-abbrev counted : PageWords → ℕ × (List ℕ × (List ℕ × (Unit {0} × Unit {0})))
-counted o = (o .word, (o .reads, (o .writes, (tt, tt))))
-
-pub wankitare-pages : Unique its.wankitare_pages.Kinds.ps its.wankitare_pages.Kinds.r its.wankitare_pages.Reads.Post
-wankitare-pages κs a x y p q = ap counted (p ∙ sym q)

@@ -7,6 +7,7 @@ pub mod Bytes
 pub mod Characters
 pub mod Checks
 pub mod Decode
+pub mod Desk
 pub mod Flags
 pub mod Formed
 pub mod General

@@ -1,9 +1,9 @@
 use mathlib.Core.Path.{sym, ap, _∙_}
 use Rattle.rules.specs.Answers.{verdictWord}
-use Rattle.board.proofs.Admits.{promised}
+use Rattle.desk.proofs.Admits.{promised}
 use borrow.Author.Needs.{needs}
-use Rattle.board.proofs.wankitare_admit.Statement.{statement}
-use Rattle.board.proofs.wankitare_admit.Tie as tie
+use Rattle.desk.proofs.wankitare_admit.Statement.{statement}
+use Rattle.desk.proofs.wankitare_admit.Tie as tie
 
 returns : tie.Need-returns
 returns c =

@@ -1,5 +1,5 @@
 -- What follows of every word and all counts that fit the contract of `wankitare_pages`, taken as it stands in the crate.
-use Prim.Native.Nat.{ℕ, _+_, _%_}
+use Prim.Native.Nat.{ℕ, _+_}
 use mathlib.Core.Path.{_≡_, refl, sym, ap, _∙_}
 use mathlib.Core.List.{List, _++_}
 use contract.Lifetimes.{Lfts}
@@ -14,14 +14,14 @@ use Rattle.rules.specs.Answers.{countWord}
 use Rattle.rules.specs.Pages.{sum, recordsIn, counting, countTests, fed, PageWords, pageWords}
 use Rattle.laws.proofs.Tests.{tested-case}
 use Rattle.laws.proofs.Counts.{Bytes, fed-joined, fed-total}
-use Rattle.words.proofs.Laws.{numbered}
-use Rattle.board.proofs.wankitare_pages.Kinds as kinds
-use Rattle.board.proofs.wankitare_pages.Reads as reads
+use Rattle.words.proofs.Laws.{nonzero}
+use Rattle.desk.proofs.wankitare_pages.Kinds as kinds
+use Rattle.desk.proofs.wankitare_pages.Reads as reads
 
 -- the word 0 says that the list was counted
 counted : (b : CountAnswer) → countWord b ≡ 0 → b ≡ Counted
 counted Counted h = refl
-counted (Uncounted e) h = absurd (numbered e (ap (λ (n : ℕ). n % 256) h))
+counted (Uncounted e) h = absurd (nonzero e h)
 
 -- what a list that is not counted leaves
 stays : (r w l : List ℕ) → (fed r w l .answer ≡ Counted → ⊥) → (fed r w l .reads ≡ r) × (fed r w l .writes ≡ w)

@@ -1,8 +1,8 @@
 use mathlib.Core.Path.{ap}
 use Rattle.rules.specs.Pages.{pageWords}
 use borrow.Author.Needs.{needs}
-use Rattle.board.proofs.wankitare_pages.Statement.{statement}
-use Rattle.board.proofs.wankitare_pages.Tie as tie
+use Rattle.desk.proofs.wankitare_pages.Statement.{statement}
+use Rattle.desk.proofs.wankitare_pages.Tie as tie
 
 returns : tie.Need-returns
 returns c = ap pageWords (rw (c .enum-told .given .1) at (c .before .before .feed .ensures))

@@ -1,0 +1,17 @@
+-- No second word or count fits the contract of a function that is called at a desk.
+use Prim.Native.Nat.{ℕ}
+use mathlib.Core.Path.{refl, sym, ap, _∙_}
+use mathlib.Core.List.{List}
+use Rattle.rules.specs.Pages.{PageWords}
+use Rattle.desk.proofs as its
+use Rattle.unique.proofs.General.{Unique, answer}
+
+pub wankitare-admit : Unique its.wankitare_admit.Kinds.ps its.wankitare_admit.Kinds.r its.wankitare_admit.Reads.Post
+wankitare-admit κs a x y p q = answer refl (p .0) (q .0)
+
+-- the word and the counts, each in the place of its parameter
+abbrev counted : PageWords → ℕ × (List ℕ × (List ℕ × (Unit {0} × Unit {0})))
+counted o = (o .word, (o .reads, (o .writes, (tt, tt))))
+
+pub wankitare-pages : Unique its.wankitare_pages.Kinds.ps its.wankitare_pages.Kinds.r its.wankitare_pages.Reads.Post
+wankitare-pages κs a x y p q = ap counted (p ∙ sym q)
