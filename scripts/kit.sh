@@ -21,6 +21,16 @@ linked() { # PROGRAM WORDS..
     ${emulator:+"$emulator"} "$tools/lib/ld-linux-x86-64.so.2" --library-path "$tools/lib" "$@"
 }
 
+# The kit's linker, for either kind of processor on either.
+link_for() { # MACHINE WORDS..
+    case $1 in
+    x86_64) emulation=elf_x86_64 ;;
+    aarch64) emulation=aarch64linux ;;
+    esac
+    shift
+    "$tools/bin/ld.lld" -m "$emulation" "$@"
+}
+
 works() { # PACKAGE: whether what it brings is there
     case $1 in
     gcc) cc --version ;;
