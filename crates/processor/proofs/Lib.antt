@@ -1,2 +1,5 @@
 pub mod Back
-pub mod Operates
+pub mod Plain
+pub mod Fetches
+pub mod Lays
+pub mod Executes

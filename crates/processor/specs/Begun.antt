@@ -1,27 +1,11 @@
--- How many accesses were made before an instruction's own, and which instructions keep within a step's room.
+-- Which instructions keep within a step's room; what is undefined has none.
 use Prim.Native.Nat.{ℕ, _+_}
-use mathlib.Core.Bool.{Bool, true}
+use mathlib.Core.Bool.{Bool, true, false}
 use lib.Dec.{leb}
 use Rattle.rules.specs.declared.Instruction.{Instruction}
-use Rattle.rules.specs.declared.Instruction.the-variants.{Read, Store, Change, Accumulator, Implied, AtStack, Branch, Jump, JumpIndirect, Jsr, Brk, Txs, Cli}
+use Rattle.rules.specs.declared.Instruction.the-variants.{Read, Store, Change, Accumulator, Implied, AtStack, Branch, Jump, JumpIndirect, Jsr, Brk, Txs, Cli, Undefined}
 use Rattle.processor.specs.Start.{fetchedOf}
 use Rattle.laws.proofs.Lengths.{placeMost}
-
--- the opcode's, and the operand's or the one at PC+1
-abbrev pub begun : Instruction → ℕ
-begun (Read o m) = fetchedOf m
-begun (Store o m) = fetchedOf m
-begun (Change o m) = fetchedOf m
-begun (Accumulator o) = 2
-begun (Implied o) = 2
-begun (AtStack o) = 2
-begun (Branch t o) = 2
-begun (Jump a) = 3
-begun (JumpIndirect a) = 3
-begun (Jsr low) = 2
-begun Brk = 2
-begun Txs = 2
-begun Cli = 2
 
 -- "read data, write it back, write the result" take three of the seven
 abbrev pub short : Instruction → Bool
@@ -32,9 +16,10 @@ short (Accumulator o) = true
 short (Implied o) = true
 short (AtStack o) = true
 short (Branch t o) = true
-short (Jump a) = true
-short (JumpIndirect a) = true
+short (Jump low high) = true
+short (JumpIndirect low high) = true
 short (Jsr low) = true
 short Brk = true
 short Txs = true
 short Cli = true
+short Undefined = false

@@ -1,3 +1,6 @@
 pub mod Begun
-pub mod Rewritten
+pub mod Laid
 pub mod Start
+pub mod Rest
+pub mod Found
+pub mod Executed

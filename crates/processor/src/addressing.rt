@@ -1,4 +1,4 @@
-// The accesses of each addressing mode, after the opcode and the operand were fetched. Each has its number in the step: a read's fifth argument.
+// The accesses of each addressing mode, after the opcode and the byte behind it were listed. Each has its number in the step: a read's fifth argument.
 
 use rules::Mode;
 use wiring::Wiring;
@@ -10,7 +10,12 @@ ghost use Rattle.rules.specs.Cycles.{Bank, execution};
 ghost use Rattle.rules.specs.Addressing.{oldPage, pointer, zeroIndexed, loadIndexed, indexed, load, place};
 ghost use Rattle.wiring.specs.Wiring.{Stands, Ready};
 ghost use Rattle.laws.specs.Goes.{Goes};
+ghost use Rattle.rules.specs.Record.{recordOf};
+ghost use Prim.Native.Nat.{_/_};
+ghost use mathlib.Core.List.{List};
+ghost use Prim.Native.Nat.{ℕ};
 ghost use Rattle.processor.specs.Start.{fetchedOf};
+ghost use Rattle.processor.specs.Rest.{highIn, pastIn, Fetched, Opens, Reaches};
 ghost use Rattle.laws.proofs.Lengths.{placeMost};
 
 // A byte that was found, and the accesses made so far.
@@ -93,18 +98,50 @@ fn load_indexed(
     }
 }
 
+// PC behind the instruction's n bytes.
+pub(crate) fn past(n: u16, pc: u16, state: &mut [u8])
+    requires { ⌜ length (now state) ≡ 16 ⌝ }
+    ensures { λ r. ⌜ ((s : State) → now (state .entry) ≡ recordOf s → pc ≡ s .cpu .pc → now (state .exit) ≡ recordOf (pastIn n s)) ⌝ }
+{
+    state::set_pc(state, std::num::wrapping_add_u16(pc, n));
+}
+
+// The high byte of an address is listed, and PC is behind it.
+pub(crate) fn third(high: u8, pc: u16, state: &mut [u8], w: Wiring, list: &mut [u8])
+    requires { ⌜ (length (now state) ≡ 16) × (56 ≤ length (now list)) ⌝ }
+    ensures { λ r. ⌜ ((s : State) (i : List ℕ) → Fetched (λ v. high) s (now (state .entry)) i w pc → Opens 3 s i (now (list .entry)) (now (state .exit)) (now (list .exit))) ⌝ }
+{
+    let at = std::num::wrapping_add_u16(pc, 2);
+    listing::note(list, 2, at, w.bank, high, 0);
+    past(3, pc, state);
+}
+
 // The byte that a load finds.
-pub(crate) fn load(m: Mode, state: &[u8], w: Wiring, image: &[u8], list: &mut [u8]) -> Loaded
+pub(crate) fn load(
+    m: Mode,
+    pc: u16,
+    state: &mut [u8],
+    w: Wiring,
+    image: &[u8],
+    list: &mut [u8],
+) -> Loaded
     requires { ⌜ Ready w (length (now state)) (length (now image)) (length (now list)) ⌝ }
-    ensures { λ r. ⌜ (r .count ≤ 7) × ((s : State) → Stands execution s (now (state .entry)) w → Goes (load (s .cpu) m) (fetchedOf m) (s .bus) (now (image .entry)) (now (list .entry)) (r .value) (r .count) (s .bus) (now (image .entry)) (now (list .exit))) ⌝ }
+    ensures { λ r. ⌜ (r .count ≤ 7) × ((s : State) → Fetched (highIn m) s (now (state .entry)) (now (image .entry)) w pc → Reaches load m s (now (image .entry)) (now (list .entry)) (r .value) (r .count) (now (state .exit)) (now (list .exit))) ⌝ }
 {
     match m {
-        Mode::Immediate(v) => Loaded { value: v, count: 2 },
-        Mode::Zero(z) => Loaded {
-            value: reads::read(state, w, image, list, 2, z as u16),
-            count: 3,
-        },
+        Mode::Immediate(v) => {
+            past(2, pc, state);
+            Loaded { value: v, count: 2 }
+        }
+        Mode::Zero(z) => {
+            past(2, pc, state);
+            Loaded {
+                value: reads::read(state, w, image, list, 2, z as u16),
+                count: 3,
+            }
+        }
         Mode::ZeroX(z) => {
+            past(2, pc, state);
             let at = zero_indexed(state, w, image, list, z, state[state::X]);
             Loaded {
                 value: reads::read(state, w, image, list, 3, at as u16),
@@ -112,19 +149,33 @@ pub(crate) fn load(m: Mode, state: &[u8], w: Wiring, image: &[u8], list: &mut [u
             }
         }
         Mode::ZeroY(z) => {
+            past(2, pc, state);
             let at = zero_indexed(state, w, image, list, z, state[state::Y]);
             Loaded {
                 value: reads::read(state, w, image, list, 3, at as u16),
                 count: 4,
             }
         }
-        Mode::Absolute(a) => Loaded {
-            value: reads::read(state, w, image, list, 3, a),
-            count: 4,
-        },
-        Mode::AbsoluteX(a) => load_indexed(state, w, image, list, 3, a, state[state::X]),
-        Mode::AbsoluteY(a) => load_indexed(state, w, image, list, 3, a, state[state::Y]),
+        Mode::Absolute(low, high) => {
+            let a = bytes::join(low, high);
+            third(high, pc, state, w, list);
+            Loaded {
+                value: reads::read(state, w, image, list, 3, a),
+                count: 4,
+            }
+        }
+        Mode::AbsoluteX(low, high) => {
+            let a = bytes::join(low, high);
+            third(high, pc, state, w, list);
+            load_indexed(state, w, image, list, 3, a, state[state::X])
+        }
+        Mode::AbsoluteY(low, high) => {
+            let a = bytes::join(low, high);
+            third(high, pc, state, w, list);
+            load_indexed(state, w, image, list, 3, a, state[state::Y])
+        }
         Mode::IndirectX(z) => {
+            past(2, pc, state);
             let at = zero_indexed(state, w, image, list, z, state[state::X]);
             let a = pointer(state, w, image, list, 3, at);
             Loaded {
@@ -133,10 +184,12 @@ pub(crate) fn load(m: Mode, state: &[u8], w: Wiring, image: &[u8], list: &mut [u
             }
         }
         Mode::IndirectY(z) => {
+            past(2, pc, state);
             let a = pointer(state, w, image, list, 2, z);
             load_indexed(state, w, image, list, 4, a, state[state::Y])
         }
         Mode::IndirectBankY(z) => {
+            past(2, pc, state);
             let a = pointer(state, w, image, list, 2, z);
             let there = wiring::indirect(state, w);
             load_indexed(state, there, image, list, 4, a, state[state::Y])
@@ -145,40 +198,72 @@ pub(crate) fn load(m: Mode, state: &[u8], w: Wiring, image: &[u8], list: &mut [u
 }
 
 // The address where a store or a shift/INC/DEC finds its data.
-pub(crate) fn place(m: Mode, state: &[u8], w: Wiring, image: &[u8], list: &mut [u8]) -> Spot
+pub(crate) fn place(
+    m: Mode,
+    pc: u16,
+    state: &mut [u8],
+    w: Wiring,
+    image: &[u8],
+    list: &mut [u8],
+) -> Spot
     requires { ⌜ Ready w (length (now state)) (length (now image)) (length (now list)) ⌝ }
-    ensures { λ r. ⌜ ((r .count ≤ 5) × (r .count ≤ fetchedOf m + placeMost m)) × ((s : State) → Stands execution s (now (state .entry)) w → Goes (place (s .cpu) m) (fetchedOf m) (s .bus) (now (image .entry)) (now (list .entry)) (r .address) (r .count) (s .bus) (now (image .entry)) (now (list .exit))) ⌝ }
+    ensures { λ r. ⌜ ((r .count ≤ 5) × (r .count ≤ fetchedOf m + placeMost m)) × ((s : State) → Fetched (highIn m) s (now (state .entry)) (now (image .entry)) w pc → Reaches place m s (now (image .entry)) (now (list .entry)) (r .address) (r .count) (now (state .exit)) (now (list .exit))) ⌝ }
 {
     match m {
-        Mode::Immediate(v) => Spot {
-            address: v as u16,
-            count: 2,
-        },
-        Mode::Zero(z) => Spot {
-            address: z as u16,
-            count: 2,
-        },
-        Mode::ZeroX(z) => Spot {
-            address: zero_indexed(state, w, image, list, z, state[state::X]) as u16,
-            count: 3,
-        },
-        Mode::ZeroY(z) => Spot {
-            address: zero_indexed(state, w, image, list, z, state[state::Y]) as u16,
-            count: 3,
-        },
-        Mode::Absolute(a) => Spot {
-            address: a,
-            count: 3,
-        },
-        Mode::AbsoluteX(a) => Spot {
-            address: indexed(state, w, image, list, 3, a, state[state::X]),
-            count: 4,
-        },
-        Mode::AbsoluteY(a) => Spot {
-            address: indexed(state, w, image, list, 3, a, state[state::Y]),
-            count: 4,
-        },
+        Mode::Immediate(v) => {
+            past(2, pc, state);
+            Spot {
+                address: v as u16,
+                count: 2,
+            }
+        }
+        Mode::Zero(z) => {
+            past(2, pc, state);
+            Spot {
+                address: z as u16,
+                count: 2,
+            }
+        }
+        Mode::ZeroX(z) => {
+            past(2, pc, state);
+            Spot {
+                address: zero_indexed(state, w, image, list, z, state[state::X]) as u16,
+                count: 3,
+            }
+        }
+        Mode::ZeroY(z) => {
+            past(2, pc, state);
+            Spot {
+                address: zero_indexed(state, w, image, list, z, state[state::Y]) as u16,
+                count: 3,
+            }
+        }
+        Mode::Absolute(low, high) => {
+            let a = bytes::join(low, high);
+            third(high, pc, state, w, list);
+            Spot {
+                address: a,
+                count: 3,
+            }
+        }
+        Mode::AbsoluteX(low, high) => {
+            let a = bytes::join(low, high);
+            third(high, pc, state, w, list);
+            Spot {
+                address: indexed(state, w, image, list, 3, a, state[state::X]),
+                count: 4,
+            }
+        }
+        Mode::AbsoluteY(low, high) => {
+            let a = bytes::join(low, high);
+            third(high, pc, state, w, list);
+            Spot {
+                address: indexed(state, w, image, list, 3, a, state[state::Y]),
+                count: 4,
+            }
+        }
         Mode::IndirectX(z) => {
+            past(2, pc, state);
             let at = zero_indexed(state, w, image, list, z, state[state::X]);
             Spot {
                 address: pointer(state, w, image, list, 3, at),
@@ -186,6 +271,7 @@ pub(crate) fn place(m: Mode, state: &[u8], w: Wiring, image: &[u8], list: &mut [
             }
         }
         Mode::IndirectY(z) => {
+            past(2, pc, state);
             let a = pointer(state, w, image, list, 2, z);
             Spot {
                 address: indexed(state, w, image, list, 4, a, state[state::Y]),
@@ -193,6 +279,7 @@ pub(crate) fn place(m: Mode, state: &[u8], w: Wiring, image: &[u8], list: &mut [
             }
         }
         Mode::IndirectBankY(z) => {
+            past(2, pc, state);
             let a = pointer(state, w, image, list, 2, z);
             let there = wiring::indirect(state, w);
             Spot {

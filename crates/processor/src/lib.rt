@@ -1,7 +1,8 @@
-// One instruction, one line a bus cycle, in the order of time.
+// One instruction: the bytes at PC are looked at, decoded, and what they say is performed, one line a bus cycle, in the order of time.
 
 mod addressing;
 
+use addressing::Spot;
 use rules::Changing;
 use rules::Condition;
 use rules::Flags;
@@ -10,28 +11,28 @@ use rules::Mode;
 use rules::Reading;
 use rules::Storing;
 use wiring::Wiring;
-ghost use Prim.Native.Nat.{_+_, _*_, _≤_, _<_};
+ghost use Prim.Native.Nat.{ℕ, _+_, _/_, _%_, _≤_, _<_};
 ghost use mathlib.Core.Path.{_≡_};
+ghost use mathlib.Core.Bool.{true, false};
+ghost use mathlib.Core.List.{List};
 ghost use lib.ListN.{length};
 ghost use Rattle.rules.specs.declared.State.{State};
-ghost use Rattle.rules.specs.declared.Instruction.the-variants.{Read, Store, Change, Branch};
-ghost use Rattle.rules.specs.Cycles.{execution, read, done};
+ghost use Rattle.rules.specs.declared.Instruction.the-variants.{Read, Branch};
+ghost use Rattle.rules.specs.Cycles.{execution};
 ghost use Rattle.rules.specs.Bus.{world, images, look};
 ghost use Rattle.rules.specs.Record.{recordOf};
 ghost use Rattle.rules.specs.Addressing.{bankOf};
 ghost use Rattle.rules.specs.Arithmetic.{changed};
-ghost use Rattle.rules.specs.Operations.{withP, withS, withResult, registerOf, taken, jsr, brk, jumpIndirect, perform, next, operate};
-ghost use Rattle.rules.specs.Opcodes.{decode, isDefined};
-ghost use Rattle.table.specs.Numbers.{numberOf};
+ghost use Rattle.rules.specs.Operations.{withP, withS, withResult, registerOf, taken, jsr, brk, jumpIndirect, perform};
 ghost use Rattle.rules.specs.Flags.{withI};
 ghost use Rattle.state.specs.Makes.{Makes};
-ghost use Rattle.wiring.specs.Wiring.{Stands, Ready};
+ghost use Rattle.wiring.specs.Wiring.{Wired, Stands, Ready};
 ghost use Rattle.laws.specs.Goes.{Goes, Does};
-ghost use Rattle.laws.proofs.Lengths.{placeMost};
-ghost use Rattle.processor.specs.Rewritten.{rewritten};
-ghost use Rattle.processor.specs.Begun.{begun, short};
-ghost use Rattle.processor.specs.Start.{fetchedOf};
-ghost use mathlib.Core.Bool.{true, false};
+ghost use Rattle.processor.specs.Begun.{short};
+ghost use Rattle.processor.specs.Rest.{highIn, highOf, past, rest, Fetched};
+ghost use Rattle.processor.specs.Laid.{storedAt, rewritten, changedAt, Lays};
+ghost use Rattle.processor.specs.Executed.{Begins, Executed};
+ghost use Rattle.processor.specs.Found.{Found, begun};
 
 fn register_of(o: Storing, state: &[u8]) -> u8
     requires { ⌜ length (now state) ≡ 16 ⌝ }
@@ -46,17 +47,17 @@ fn register_of(o: Storing, state: &[u8]) -> u8
 
 // "Only the last one or two accesses of B1 and 91 (after the pointer) use the indirect bank."
 fn wiring_of(m: Mode, state: &[u8], w: Wiring) -> Wiring
-    requires { ⌜ (length (now state) ≡ 16) × ((1 ≤ w .banks) × (w .base + 65536 ≤ w .banks * 65536)) ⌝ }
-    ensures { λ r. ⌜ ((r .base + 65536 ≤ w .banks * 65536) × (r .banks ≡ w .banks)) × ((s : State) → Stands execution s (now (state .entry)) w → Stands (bankOf m) s (now (state .entry)) r) ⌝ }
+    requires { ⌜ ((length (now state) ≡ 16) × (w .base + 65536 ≤ w .size)) × (w .size % 65536 ≡ 0) ⌝ }
+    ensures { λ r. ⌜ ((r .base + 65536 ≤ w .size) × (r .size ≡ w .size)) × ((s : State) → Stands execution s (now (state .entry)) w → Stands (bankOf m) s (now (state .entry)) r) ⌝ }
 {
     match m {
         Mode::Immediate(_) => w,
         Mode::Zero(_) => w,
         Mode::ZeroX(_) => w,
         Mode::ZeroY(_) => w,
-        Mode::Absolute(_) => w,
-        Mode::AbsoluteX(_) => w,
-        Mode::AbsoluteY(_) => w,
+        Mode::Absolute(_, _) => w,
+        Mode::AbsoluteX(_, _) => w,
+        Mode::AbsoluteY(_, _) => w,
         Mode::IndirectX(_) => w,
         Mode::IndirectY(_) => w,
         Mode::IndirectBankY(_) => wiring::indirect(state, w),
@@ -66,20 +67,18 @@ fn wiring_of(m: Mode, state: &[u8], w: Wiring) -> Wiring
 fn store(
     o: Storing,
     m: Mode,
+    at: Spot,
     state: &mut [u8],
     w: Wiring,
     image: &mut [u8],
     list: &mut [u8],
-) -> usize
-    requires { ⌜ Ready w (length (now state)) (length (now image)) (length (now list)) ⌝ }
-    ensures { λ r. ⌜ (r ≤ 7) × ((s : State) → Stands execution s (now (state .entry)) w → Does (perform (Store o m) (s .cpu)) (fetchedOf m) s (now (image .entry)) (now (list .entry)) r (now (state .exit)) (now (image .exit)) (now (list .exit))) ⌝ }
+)
+    requires { ⌜ (at .count < 7) × Ready w (length (now state)) (length (now image)) (length (now list)) ⌝ }
+    ensures { λ r. ⌜ ((s : State) → Stands execution s (now (state .entry)) w → Does (storedAt o m (at .address) (s .cpu)) (at .count) s (now (image .entry)) (now (list .entry)) (at .count + 1) (now (state .exit)) (now (image .exit)) (now (list .exit))) ⌝ }
 {
-    let at = addressing::place(m, state, w, image, list);
     let there = wiring_of(m, state, w);
     let v = register_of(o, state);
-    let k = at.count;
-    writes::write(state, there, image, list, k, at.address, v);
-    k + 1
+    writes::write(state, there, image, list, at.count, at.address, v);
 }
 
 // The two writes of "Shift/INC/DEC: read data, write it back, write the result"; v is what was read.
@@ -104,23 +103,42 @@ fn rewrite(
     state::set_flags(state, after);
 }
 
-fn change(
-    o: Changing,
+fn change(o: Changing, at: Spot, state: &mut [u8], w: Wiring, image: &mut [u8], list: &mut [u8])
+    requires { ⌜ (at .count < 5) × Ready w (length (now state)) (length (now image)) (length (now list)) ⌝ }
+    ensures { λ r. ⌜ ((s : State) → Stands execution s (now (state .entry)) w → Does (changedAt o (at .address) (s .cpu)) (at .count) s (now (image .entry)) (now (list .entry)) (at .count + 3) (now (state .exit)) (now (image .exit)) (now (list .exit))) ⌝ }
+{
+    let k = at.count;
+    let a = at.address;
+    let v = reads::read(state, w, image, list, k, a);
+    rewrite(o, k + 1, a, v, state, w, image, list);
+}
+
+// What a store, a shift, INC or DEC does by its mode: its place is found, and there it is done. One function for both, so that `place` has
+// one caller and is compiled into it.
+fn lay(
+    i: Instruction,
     m: Mode,
+    pc: u16,
     state: &mut [u8],
     w: Wiring,
     image: &mut [u8],
     list: &mut [u8],
 ) -> usize
-    requires { ⌜ (fetchedOf m + placeMost m ≤ 4) × Ready w (length (now state)) (length (now image)) (length (now list)) ⌝ }
-    ensures { λ r. ⌜ (r ≤ 7) × ((s : State) → Stands execution s (now (state .entry)) w → Does (perform (Change o m) (s .cpu)) (fetchedOf m) s (now (image .entry)) (now (list .entry)) r (now (state .exit)) (now (image .exit)) (now (list .exit))) ⌝ }
+    requires { ⌜ (Lays i m × (short i ≡ true)) × Ready w (length (now state)) (length (now image)) (length (now list)) ⌝ }
+    ensures { λ r. ⌜ (r ≤ 7) × ((s : State) → Fetched (highIn m) s (now (state .entry)) (now (image .entry)) w pc → Does (rest i (s .cpu)) 2 s (now (image .entry)) (now (list .entry)) r (now (state .exit)) (now (image .exit)) (now (list .exit))) ⌝ }
 {
-    let at = addressing::place(m, state, w, image, list);
-    let k = at.count;
-    let a = at.address;
-    let v = reads::read(state, w, image, list, k, a);
-    rewrite(o, k + 1, a, v, state, w, image, list);
-    k + 3
+    let at = addressing::place(m, pc, state, w, image, list);
+    match i {
+        Instruction::Store(o, _) => {
+            store(o, m, at, state, w, image, list);
+            at.count + 1
+        }
+        Instruction::Change(o, _) => {
+            change(o, at, state, w, image, list);
+            at.count + 3
+        }
+        _ => 0,
+    }
 }
 
 // When a branch is taken.
@@ -139,65 +157,75 @@ fn taken(t: Condition, f: Flags) -> bool
     }
 }
 
-// "Branch: offset; if taken, read the next instruction's address". PC stands there.
-fn branch(t: Condition, o: u8, state: &mut [u8], w: Wiring, image: &[u8], list: &mut [u8]) -> usize
-    requires { ⌜ Ready w (length (now state)) (length (now image)) (length (now list)) ⌝ }
-    ensures { λ r. ⌜ (r ≤ 7) × ((s : State) → Stands execution s (now (state .entry)) w → Does (perform (Branch t o) (s .cpu)) 2 s (now (image .entry)) (now (list .entry)) r (now (state .exit)) (now (image .entry)) (now (list .exit))) ⌝ }
-{
-    if taken(t, state::flags_of(state)) {
-        let pc = state::pc_of(state);
-        let to = bytes::target(pc, o);
-        reads::read(state, w, image, list, 2, pc);
-        if to / 256 == pc / 256 {
-            state::set_pc(state, to);
-            return 3;
-        }
-        reads::read(state, w, image, list, 3, pc / 256 * 256 + to % 256);
-        state::set_pc(state, to);
-        return 4;
-    }
-    2
-}
-
-fn read_into(
-    o: Reading,
-    m: Mode,
+// "Branch: offset; if taken, read the next instruction's address".
+fn branch(
+    t: Condition,
+    o: u8,
+    pc: u16,
     state: &mut [u8],
     w: Wiring,
     image: &[u8],
     list: &mut [u8],
 ) -> usize
     requires { ⌜ Ready w (length (now state)) (length (now image)) (length (now list)) ⌝ }
-    ensures { λ r. ⌜ (r ≤ 7) × ((s : State) → Stands execution s (now (state .entry)) w → Does (perform (Read o m) (s .cpu)) (fetchedOf m) s (now (image .entry)) (now (list .entry)) r (now (state .exit)) (now (image .entry)) (now (list .exit))) ⌝ }
+    ensures { λ r. ⌜ (r ≤ 7) × ((s : State) → Stands execution s (now (state .entry)) w → pc ≡ s .cpu .pc → Does (perform (Branch t o) (past 2 (s .cpu))) 2 s (now (image .entry)) (now (list .entry)) r (now (state .exit)) (now (image .entry)) (now (list .exit))) ⌝ }
 {
-    let got = addressing::load(m, state, w, image, list);
+    let next = std::num::wrapping_add_u16(pc, 2);
+    if taken(t, state::flags_of(state)) {
+        let to = bytes::target(next, o);
+        reads::read(state, w, image, list, 2, next);
+        if to / 256 == next / 256 {
+            state::set_pc(state, to);
+            return 3;
+        }
+        reads::read(state, w, image, list, 3, next / 256 * 256 + to % 256);
+        state::set_pc(state, to);
+        return 4;
+    }
+    state::set_pc(state, next);
+    2
+}
+
+fn read_into(
+    o: Reading,
+    m: Mode,
+    pc: u16,
+    state: &mut [u8],
+    w: Wiring,
+    image: &[u8],
+    list: &mut [u8],
+) -> usize
+    requires { ⌜ Ready w (length (now state)) (length (now image)) (length (now list)) ⌝ }
+    ensures { λ r. ⌜ (r ≤ 7) × ((s : State) → Fetched (highIn m) s (now (state .entry)) (now (image .entry)) w pc → Does (rest (Read o m) (s .cpu)) 2 s (now (image .entry)) (now (list .entry)) r (now (state .exit)) (now (image .entry)) (now (list .exit))) ⌝ }
+{
+    let got = addressing::load(m, pc, state, w, image, list);
     operations::used(o, got.value, state);
     got.count
 }
 
-// "JSR: low, read at S, push PC+2 high, low, then high operand." PC stands at PC+2.
-fn jsr(low: u8, state: &mut [u8], w: Wiring, image: &mut [u8], list: &mut [u8])
+// "JSR: low, read at S, push PC+2 high, low, then high operand."
+fn jsr(low: u8, pc: u16, state: &mut [u8], w: Wiring, image: &mut [u8], list: &mut [u8])
     requires { ⌜ Ready w (length (now state)) (length (now image)) (length (now list)) ⌝ }
-    ensures { λ r. ⌜ ((s : State) → Stands execution s (now (state .entry)) w → Does (jsr low (s .cpu)) 2 s (now (image .entry)) (now (list .entry)) 6 (now (state .exit)) (now (image .exit)) (now (list .exit))) ⌝ }
+    ensures { λ r. ⌜ ((s : State) → Stands execution s (now (state .entry)) w → pc ≡ s .cpu .pc → Does (jsr low (past 2 (s .cpu))) 2 s (now (image .entry)) (now (list .entry)) 6 (now (state .exit)) (now (image .exit)) (now (list .exit))) ⌝ }
 {
     let s = state[state::S];
-    let pc = state::pc_of(state);
+    let two = std::num::wrapping_add_u16(pc, 2);
     reads::read(state, w, image, list, 2, bytes::stack(s));
-    writes::push_pc(w, image, list, 3, pc, s);
-    let high = reads::read(state, w, image, list, 5, pc);
+    writes::push_pc(state, w, image, list, 3, two, s);
+    let high = reads::read(state, w, image, list, 5, two);
     state::set_s(state, bytes::down(2, s));
     state::set_pc(state, bytes::join(low, high));
 }
 
-// "BRK: PC+1, push PC+2 high, low, P with bit 4 set, FFFE, FFFF; I set." PC stands at PC+1.
-fn brk(state: &mut [u8], w: Wiring, image: &mut [u8], list: &mut [u8])
+// "BRK: PC+1, push PC+2 high, low, P with bit 4 set, FFFE, FFFF; I set."
+fn brk(pc: u16, state: &mut [u8], w: Wiring, image: &mut [u8], list: &mut [u8])
     requires { ⌜ Ready w (length (now state)) (length (now image)) (length (now list)) ⌝ }
-    ensures { λ r. ⌜ ((s : State) → Stands execution s (now (state .entry)) w → Does (brk (s .cpu)) 2 s (now (image .entry)) (now (list .entry)) 7 (now (state .exit)) (now (image .exit)) (now (list .exit))) ⌝ }
+    ensures { λ r. ⌜ ((s : State) → Stands execution s (now (state .entry)) w → pc ≡ s .cpu .pc → Does (brk (past 1 (s .cpu))) 2 s (now (image .entry)) (now (list .entry)) 7 (now (state .exit)) (now (image .exit)) (now (list .exit))) ⌝ }
 {
-    let back = std::num::wrapping_add_u16(state::pc_of(state), 1);
+    let back = std::num::wrapping_add_u16(pc, 2);
     let s = state[state::S];
     let p = flags::with_bit_4(state::flags_of(state));
-    sequence::push_three(w, image, list, back, s, p);
+    sequence::push_three(state, w, image, list, back, s, p);
     sequence::enter(65534, state, w, image, list);
 }
 
@@ -237,83 +265,124 @@ fn cli(state: &mut [u8])
     state::set_flags(state, flags::with_i(false, f))
 }
 
-// An instruction's own accesses, and what it leaves. Answers the accesses made so far.
-fn perform(i: Instruction, state: &mut [u8], w: Wiring, image: &mut [u8], list: &mut [u8]) -> usize
-    requires { ⌜ (short i ≡ true) × Ready w (length (now state)) (length (now image)) (length (now list)) ⌝ }
-    ensures { λ r. ⌜ (r ≤ 7) × ((s : State) → Stands execution s (now (state .entry)) w → Does (perform i (s .cpu)) (begun i) s (now (image .entry)) (now (list .entry)) r (now (state .exit)) (now (image .exit)) (now (list .exit))) ⌝ }
-{
-    match i {
-        Instruction::Read(o, m) => read_into(o, m, state, w, image, list),
-        Instruction::Store(o, m) => store(o, m, state, w, image, list),
-        Instruction::Change(o, m) => change(o, m, state, w, image, list),
-        Instruction::Accumulator(o) => {
-            accumulated(o, state);
-            2
-        }
-        Instruction::Implied(o) => {
-            internal::inside(o, state);
-            2
-        }
-        Instruction::AtStack(o) => stacking::at_stack(o, state, w, image, list),
-        Instruction::Branch(t, o) => branch(t, o, state, w, image, list),
-        Instruction::Jump(a) => {
-            state::set_pc(state, a);
-            3
-        }
-        Instruction::JumpIndirect(a) => {
-            jump_indirect(a, state, w, image, list);
-            5
-        }
-        Instruction::Jsr(low) => {
-            jsr(low, state, w, image, list);
-            6
-        }
-        Instruction::Brk => {
-            brk(state, w, image, list);
-            7
-        }
-        Instruction::Txs => {
-            txs(state);
-            2
-        }
-        Instruction::Cli => {
-            cli(state);
-            2
-        }
-    }
-}
-
-// The high byte of an address, where three bytes are fetched.
-fn high_operand(size: u16, state: &[u8], w: Wiring, image: &[u8], list: &mut [u8], a: u16) -> u8
-    requires { ⌜ Ready w (length (now state)) (length (now image)) (length (now list)) ⌝ }
-    ensures { λ r. ⌜ ((s : State) → Stands execution s (now (state .entry)) w → size ≡ 3 → Goes (read execution a done) 2 (s .bus) (now (image .entry)) (now (list .entry)) r 3 (s .bus) (now (image .entry)) (now (list .exit))) × ((size ≡ 3 → ⊥) → now (list .exit) ≡ now (list .entry)) ⌝ }
-{
-    if size == 3 {
-        return reads::read(state, w, image, list, 2, a);
-    }
-    0
-}
-
-// The instruction whose opcode was listed at PC; the entry is the opcode's. Answers the accesses made.
-pub fn instruction(
-    opcode: u8,
-    entry: u8,
+// An instruction whose opcode and next byte were listed: the high byte of its address, its own accesses, and what it leaves. Answers the
+// accesses made so far.
+fn perform(
+    i: Instruction,
     pc: u16,
     state: &mut [u8],
     w: Wiring,
     image: &mut [u8],
     list: &mut [u8],
 ) -> usize
-    requires { ⌜ ((entry ≡ numberOf (decode opcode)) × (isDefined (decode opcode) ≡ true)) × Ready w (length (now state)) (length (now image)) (length (now list)) ⌝ }
-    ensures { λ r. ⌜ (r ≤ 7) × ((s : State) → Stands execution s (now (state .entry)) w → pc ≡ s .cpu .pc → Does (operate (decode opcode) (next (s .cpu))) 1 s (now (image .entry)) (now (list .entry)) r (now (state .exit)) (now (image .exit)) (now (list .exit))) ⌝ }
+    requires { ⌜ (short i ≡ true) × Ready w (length (now state)) (length (now image)) (length (now list)) ⌝ }
+    ensures { λ r. ⌜ (r ≤ 7) × ((s : State) → Fetched (highOf i) s (now (state .entry)) (now (image .entry)) w pc → Does (rest i (s .cpu)) 2 s (now (image .entry)) (now (list .entry)) r (now (state .exit)) (now (image .exit)) (now (list .exit))) ⌝ }
 {
-    let size = table::fetched(entry);
+    match i {
+        Instruction::Read(o, m) => read_into(o, m, pc, state, w, image, list),
+        Instruction::Store(_, m) | Instruction::Change(_, m) => {
+            lay(i, m, pc, state, w, image, list)
+        }
+        Instruction::Accumulator(o) => {
+            addressing::past(1, pc, state);
+            accumulated(o, state);
+            2
+        }
+        Instruction::Implied(o) => {
+            addressing::past(1, pc, state);
+            internal::inside(o, state);
+            2
+        }
+        Instruction::AtStack(o) => {
+            addressing::past(1, pc, state);
+            stacking::at_stack(o, state, w, image, list)
+        }
+        Instruction::Branch(t, o) => branch(t, o, pc, state, w, image, list),
+        Instruction::Jump(low, high) => {
+            addressing::third(high, pc, state, w, list);
+            state::set_pc(state, bytes::join(low, high));
+            3
+        }
+        Instruction::JumpIndirect(low, high) => {
+            addressing::third(high, pc, state, w, list);
+            jump_indirect(bytes::join(low, high), state, w, image, list);
+            5
+        }
+        Instruction::Jsr(low) => {
+            jsr(low, pc, state, w, image, list);
+            6
+        }
+        Instruction::Brk => {
+            brk(pc, state, w, image, list);
+            7
+        }
+        Instruction::Txs => {
+            addressing::past(1, pc, state);
+            txs(state);
+            2
+        }
+        Instruction::Cli => {
+            addressing::past(1, pc, state);
+            cli(state);
+            2
+        }
+        Instruction::Undefined => 0,
+    }
+}
+
+// The three bytes at PC.
+struct Bytes {
+    pub opcode: u8,
+    pub low: u8,
+    pub high: u8,
+}
+
+// They are looked at, unlisted.
+fn fetch(state: &[u8], w: Wiring, image: &[u8], pc: u16) -> Bytes
+    requires { ⌜ Ready w (length (now state)) (length (now image)) 56 ⌝ }
+    ensures { λ r. ⌜ ((s : State) → Stands execution s (now (state .entry)) w → pc ≡ s .cpu .pc → Found r s (now (image .entry))) ⌝ }
+{
+    if w.plain <= pc {
+        if pc < 65534 {
+            let at = w.base + pc as usize;
+            return Bytes {
+                opcode: image[at],
+                low: image[at + 1],
+                high: image[at + 2],
+            };
+        }
+    }
     let one = std::num::wrapping_add_u16(pc, 1);
     let two = std::num::wrapping_add_u16(pc, 2);
-    let after = std::num::wrapping_add_u16(pc, size);
-    let low = reads::read(state, w, image, list, 1, one);
-    let high = high_operand(size, state, w, image, list, two);
-    let i = decode::instruction_of(entry, low, high);
-    state::set_pc(state, after);
-    perform(i, state, w, image, list)
+    Bytes {
+        opcode: reads::look(state, w, image, pc),
+        low: reads::look(state, w, image, one),
+        high: reads::look(state, w, image, two),
+    }
+}
+
+// The opcode and the byte behind it are listed.
+fn begin(f: Bytes, pc: u16, w: Wiring, list: &mut [u8])
+    requires { ⌜ 56 ≤ length (now list) ⌝ }
+    ensures { λ r. ⌜ ((s : State) (i : List ℕ) → Wired execution w (s .bus) → pc ≡ s .cpu .pc → Found f s i → Goes (begun (s .cpu .pc)) 0 (s .bus) i (now (list .entry)) (f .low) 2 (s .bus) i (now (list .exit))) ⌝ }
+{
+    let one = std::num::wrapping_add_u16(pc, 1);
+    listing::note(list, 0, pc, w.bank, f.opcode, 0);
+    listing::note(list, 1, one, w.bank, f.low, 0);
+}
+
+// The instruction at PC. Answers the accesses made, or 0 where the opcode is undefined: then nothing has changed.
+pub fn instruction(pins: u8, state: &mut [u8], image: &mut [u8], list: &mut [u8]) -> usize
+    requires { ⌜ ((length (now state) ≡ 16) × (56 ≤ length (now list))) × ((65536 ≤ length (now image)) × (length (now image) % 65536 ≡ 0)) ⌝ }
+    ensures { λ r. ⌜ (r ≤ 7) × ((s : State) → Begins s (now (state .entry)) pins (length (now (image .entry))) → Executed s (now (image .entry)) (now (list .entry)) r (now (state .exit)) (now (image .exit)) (now (list .exit))) ⌝ }
+{
+    let w = wiring::wire(state, pins, image.len());
+    let pc = state::pc_of(state);
+    let f = fetch(state, w, image, pc);
+    let i = decode::decode(f.opcode, f.low, f.high);
+    if let Instruction::Undefined = i {
+        return 0;
+    }
+    begin(f, pc, w, list);
+    perform(i, pc, state, w, image, list)
 }

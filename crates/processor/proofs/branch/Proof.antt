@@ -1,7 +1,7 @@
+use native.Mathlib.Omega.{arith}
 use Rattle.laws.proofs.Goes.{does, ended, then-read}
 use Rattle.rules.specs.Cycles.{execution, _>>=_}
 use Rattle.rules.specs.Operations.{perform, branchTo}
-use native.Mathlib.Omega.{arith}
 use borrow.Author.Tests.{eq-eqb, ne-eqb}
 use borrow.Author.Needs.{needs}
 use Rattle.processor.proofs.branch.Statement.{statement}
@@ -9,38 +9,57 @@ use Rattle.processor.proofs.branch.Tie as tie
 
 returns : tie.Need-returns
 unfolding perform branchTo _>>=_
-returns c = (
-  omega arith,
-  λ s h.
-      let pc = c .before .before .before .before .before .before .before .before .before .before .before .pc-of .ensures s (h .bytes) in
-      let yes = rw (c .before .before .before .before .before .before .before .before .before .before .before .before .before .before .taken .ensures, c .before .before .before .before .before .before .before .before .before .before .before .before .before .before .before .flags-of .ensures s (h .bytes)) at (c .before .before .before .before .before .before .before .before .before .before .before .before .before .if1 .taken) in
-      let to = rw pc at (c .before .before .before .before .before .before .before .before .before .before .target .ensures) in
-      let near = rw (to, pc) at (c .before .before .before .before .if2 .taken) in
-      rw (yes, eq-eqb _ _ near) (does s (rw to at (c .before .before .set-pc .ensures s (h .bytes))) (then-read _ (rw pc at (c .before .before .before .before .before .before .before .read .ensures s execution h)) ended)),
-)
+returns c =
+    let at-if2 = c .before .before .before .before in
+    let at-read = at-if2 .before .before .before in
+    let at-target = at-read .before .before .before in
+    let at-if1 = at-target .before in
+    let at-taken = at-if1 .before in
+    let at-flags-of = at-taken .before in
+    let at-wrapping-add-u16 = at-flags-of .before .before in (
+      omega arith,
+      λ s h p.
+          let next = rw p at (at-wrapping-add-u16 .wrapping-add-u16 .ensures) in
+          let yes = rw (at-taken .taken .ensures, at-flags-of .flags-of .ensures s (h .bytes)) at (at-if1 .if1 .taken) in
+          let to = rw next at (at-target .target .ensures) in
+          let near = rw (to, next) at (at-if2 .if2 .taken) in
+          rw (yes, eq-eqb _ _ near) (does s (rw to at (c .before .before .set-pc .ensures s (h .bytes))) (then-read _ (rw next at (at-read .read .ensures s execution h)) ended)),
+    )
 
 returns-2 : tie.Need-returns-2
 unfolding perform branchTo _>>=_
-returns-2 c = (
-  omega arith,
-  λ s h.
-      let pc = c .before .before .before .before .before .before .before .before .before .before .before .before .before .before .before .before .pc-of .ensures s (h .bytes) in
-      let yes = rw (c .before .before .before .before .before .before .before .before .before .before .before .before .before .before .before .before .before .before .before .taken .ensures, c .before .before .before .before .before .before .before .before .before .before .before .before .before .before .before .before .before .before .before .before .flags-of .ensures s (h .bytes)) at (c .before .before .before .before .before .before .before .before .before .before .before .before .before .before .before .before .before .before .if1 .taken) in
-      let to = rw pc at (c .before .before .before .before .before .before .before .before .before .before .before .before .before .before .before .target .ensures) in
-      let far = rw (to, pc) at (c .before .before .before .before .before .before .before .before .before .if2 .left) in
-      rw (yes, ne-eqb _ _ far)
-      (does s (rw to at (c .before .before .set-pc2 .ensures s (h .bytes)))
-      (then-read _ (rw pc at (c .before .before .before .before .before .before .before .before .before .before .before .before .read .ensures s execution h)) (then-read _ (rw (to, pc) at (c .before .before .before .before .before .before .read2 .ensures s execution h)) ended))),
-)
+returns-2 c =
+    let at-read2 = c .before .before .before .before .before .before in
+    let at-if2 = at-read2 .before .before .before in
+    let at-read = at-if2 .before .before .before in
+    let at-target = at-read .before .before .before in
+    let at-if1 = at-target .before in
+    let at-taken = at-if1 .before in
+    let at-flags-of = at-taken .before in
+    let at-wrapping-add-u16 = at-flags-of .before .before in (
+      omega arith,
+      λ s h p.
+          let next = rw p at (at-wrapping-add-u16 .wrapping-add-u16 .ensures) in
+          let yes = rw (at-taken .taken .ensures, at-flags-of .flags-of .ensures s (h .bytes)) at (at-if1 .if1 .taken) in
+          let to = rw next at (at-target .target .ensures) in
+          let far = rw (to, next) at (at-if2 .if2 .left) in
+          rw (yes, ne-eqb _ _ far)
+          (does s (rw to at (c .before .before .set-pc2 .ensures s (h .bytes)))
+          (then-read _ (rw next at (at-read .read .ensures s execution h)) (then-read _ (rw (to, next) at (at-read2 .read2 .ensures s execution h)) ended))),
+    )
 
 returns-3 : tie.Need-returns-3
 unfolding perform branchTo _>>=_
-returns-3 c = (
-  omega arith,
-  λ s h.
-      let no = rw (c .before .taken .ensures, c .before .before .flags-of .ensures s (h .bytes)) at (c .if1 .left) in
-      rw no (does s (h .bytes) ended),
-)
+returns-3 c =
+    let at-if1 = c .before .before .before .before in
+    let at-taken = at-if1 .before in
+    let at-flags-of = at-taken .before in
+    let at-wrapping-add-u16 = at-flags-of .before .before in (
+      omega arith,
+      λ s h p.
+          let no = rw (at-taken .taken .ensures, at-flags-of .flags-of .ensures s (h .bytes)) at (at-if1 .if1 .left) in
+          rw no (does s (rw (at-wrapping-add-u16 .wrapping-add-u16 .ensures, p) at (c .before .before .set-pc3 .ensures s (h .bytes))) ended),
+    )
 
 pub branch-spec : {M : Type 1} → statement M
 branch-spec =
@@ -62,5 +81,6 @@ branch-spec =
     (λ c. search needs)
     (λ c. search needs)
     returns-2
+    (λ c κs. search needs)
     (λ c. search needs)
     returns-3)

@@ -1,24 +1,32 @@
-use Rattle.laws.proofs.Goes.{do-does}
-use Rattle.rules.specs.Cycles.{_>>=_}
-use Rattle.rules.specs.Operations.{brk}
-use borrow.Author.Needs.{needs}
+use Rattle.processor.proofs.Fetches.{twice}
 use Rattle.state.proofs.Registers.{s-of}
+use Rattle.rules.specs.Operations.{brk, enter}
+use Rattle.rules.specs.Cycles.{_>>=_}
+use Rattle.laws.proofs.Goes.{do-does}
+use borrow.Author.Needs.{needs}
 use Rattle.processor.proofs.brk.Statement.{statement}
 use Rattle.processor.proofs.brk.Tie as tie
 
 returns : tie.Need-returns
-unfolding brk _>>=_
-returns c = λ s h.
+unfolding brk enter _>>=_
+returns c =
+    let at-enter = c .before .before .before .before in
+    let to-push-three = at-enter .before .before .before .before in
+    let at-push-three = to-push-three .before .before .before .before in
+    let at-with-bit-4 = at-push-three .before .before .before .before in
+    let at-flags-of = at-with-bit-4 .before in
+    let at-wrapping-add-u16 = at-flags-of .before .before .before in
+    λ s h q.
     let sp = s-of s (h .bytes) in
-    let back = rw (c .before .before .before .before .before .before .before .before .before .before .before .before .before .before .before .before .before .before .before .before .pc-of .ensures s (h .bytes)) at (c .before .before .before .before .before .before .before .before .before .before .before .before .before .before .before .before .before .before .before .wrapping-add-u16 .ensures) in
-    let p = rw (c .before .before .before .before .before .before .before .before .before .before .before .before .before .before .before .before .flags-of .ensures s (h .bytes)) at (c .before .before .before .before .before .before .before .before .before .before .before .before .before .before .before .with-bit-4 .ensures) in
-    do-does _ (rw (back, sp, p) at (c .before .before .before .before .before .before .before .before .before .before .before .before .push-three .ensures (s .bus) (h .wired))) (c .before .before .before .before .enter .ensures s h)
+    let back = rw q at (at-wrapping-add-u16 .wrapping-add-u16 .ensures) in
+    let p = rw (at-flags-of .flags-of .ensures s (h .bytes)) at (at-with-bit-4 .with-bit-4 .ensures) in
+    let pushed = rw (back, sp, p) at (at-push-three .push-three .ensures s h) in
+    rw (twice (s .cpu .pc)) (do-does _ pushed (at-enter .enter .ensures s h))
 
 pub brk-spec : {M : Type 1} → statement M
 brk-spec =
     tie.close
     (tie.spec
-    (λ c κs. search needs)
     (λ c κs. search needs)
     (λ c. search needs)
     (λ c κs. search needs)

@@ -1,24 +1,43 @@
-use mathlib.Core.Path.{_∙_}
-use Rattle.laws.proofs.Goes.{does, ended, then-read, then-do}
-use Rattle.rules.specs.Cycles.{execution, _>>=_}
-use Rattle.rules.specs.Operations.{jsr}
 use Rattle.state.proofs.Registers.{s-of}
+use Rattle.rules.specs.Operations.{jsr}
+use Rattle.rules.specs.Cycles.{execution, _>>=_}
+use Rattle.laws.proofs.Goes.{does, ended, then-read, then-do}
+use mathlib.Core.Path.{_∙_}
 use borrow.Author.Needs.{needs}
 use Rattle.processor.proofs.jsr.Statement.{statement}
 use Rattle.processor.proofs.jsr.Tie as tie
 
 set-pc-requires : tie.Need-set-pc-requires
-set-pc-requires c κs = c .before .before .before .before .set-s .kept .0 ∙ c .before .before .before .before .before .before .before .before .before .before .before .before .before .before .before .before .before .before .before .before .before .before .before .before .before .before .before .before .before .before .before .before .before .pre .whole
+set-pc-requires c κs =
+    let at-set-s = c .before .before .before .before in
+    let at-read2 = at-set-s .before .before .before .before .before in
+    let at-push-pc′ = at-read2 .before .before .before .before .before .before in
+    let at-push-pc = at-push-pc′ .before .before in
+    let at-read = at-push-pc .before .before .before .before .before .before in
+    let at-twice = at-read .before .before .before .before .before in
+    let start = at-twice .before .before .before .before .before in
+    at-set-s .set-s .kept .0 ∙ start .pre .whole
 
 returns : tie.Need-returns
 unfolding jsr _>>=_
-returns c = λ s h.
-    let pc = c .before .before .before .before .before .before .before .before .before .before .before .before .before .before .before .before .before .before .before .before .before .before .before .before .before .before .before .before .before .before .pc-of .ensures s (h .bytes) in
+returns c =
+    let at-join = c .before .before .before in
+    let at-set-s = at-join .before .before .before .before in
+    let at-down = at-set-s .before in
+    let at-read2 = at-down .before .before .before .before in
+    let to-push-pc = at-read2 .before .before .before .before in
+    let at-push-pc = to-push-pc .before .before .before .before in
+    let at-read = at-push-pc .before .before .before .before .before .before in
+    let at-stack = at-read .before in
+    let at-wrapping-add-u16 = at-stack .before .before .before .before in
+    λ s h p.
+    let two = rw p at (at-wrapping-add-u16 .wrapping-add-u16 .ensures) in
     let sp = s-of s (h .bytes) in
-    does s (rw (c .before .before .before .join .ensures, c .before .before .before .before .before .before .before .before .down .ensures, sp) at (c .before .before .set-pc .ensures _ (c .before .before .before .before .before .before .before .set-s .ensures s (h .bytes))))
-    (then-read _ (rw (c .before .before .before .before .before .before .before .before .before .before .before .before .before .before .before .before .before .before .before .before .before .before .before .before .before .before .stack .ensures, sp) at (c .before .before .before .before .before .before .before .before .before .before .before .before .before .before .before .before .before .before .before .before .before .before .before .before .before .read .ensures s execution h))
-    (then-do _ (rw (pc, sp) at (c .before .before .before .before .before .before .before .before .before .before .before .before .before .before .before .before .before .before .before .before .push-pc .ensures (s .bus) (h .wired)))
-    (then-read _ (rw pc at (c .before .before .before .before .before .before .before .before .before .before .before .before .read2 .ensures s execution h)) ended)))
+    let lowered = at-set-s .set-s .ensures s (h .bytes) in
+    does s (rw (at-join .join .ensures, at-down .down .ensures, sp) at (c .before .before .set-pc .ensures _ lowered))
+    (then-read _ (rw (at-stack .stack .ensures, sp) at (at-read .read .ensures s execution h))
+    (then-do _ (rw (two, sp) at (at-push-pc .push-pc .ensures s h))
+    (then-read _ (rw two at (at-read2 .read2 .ensures s execution h)) ended)))
 
 pub jsr-spec : {M : Type 1} → statement M
 jsr-spec =

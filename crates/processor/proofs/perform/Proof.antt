@@ -1,65 +1,159 @@
+use mathlib.Core.Logic.{⊎-elim}
+use mathlib.Core.Path.{_≡_, sym, _∙_}
+use Rattle.processor.specs.Laid.{Lays}
+use Rattle.processor.proofs.Lays.{as-store, as-change, lays-fetched}
+use Rattle.processor.proofs.Fetches.{opened-does, one, stands-past}
+use Rattle.processor.specs.Rest.{rest}
 use Rattle.rules.specs.Operations.{perform}
-use native.Mathlib.Omega.{arith}
-use borrow.Author.Tests.{leb-true}
 use Rattle.laws.proofs.Goes.{does, ended}
+use mathlib.Core.Bool.{false≢true}
+use native.Mathlib.Omega.{arith}
 use borrow.Author.Needs.{needs}
 use Rattle.processor.proofs.perform.Statement.{statement}
 use Rattle.processor.proofs.perform.Tie as tie
 
-change-requires : tie.Need-change-requires
-change-requires c κs = (leb-true _ 4 (rw (c .before .before .before .before .i3 .given .1) at (c .before .before .before .before .before .before .before .before .before .pre .0)), c .before .before .before .before .before .before .before .before .before .pre .1)
+lay-requires : tie.Need-lay-requires
+lay-requires c κs =
+    let at-match = c .before .before .before in
+    let start = at-match .before .before .before .before in
+    let w = at-match .match in
+    let lays = ⊎-elim {C = Lays (w .i) (w .m)} (λ l. as-store (l .3) (l .4)) (λ l. as-change (l .3) (l .4)) (w .came) in
+    let same = ⊎-elim {C = w .i ≡ start .args .i} (λ l. l .3 ∙ sym (l .1 .given .1)) (λ l. l .3 ∙ sym (l .1 .given .1)) (w .came) in
+    ((lays, rw same (start .pre .0)), search needs)
 
 returns : tie.Need-returns
-unfolding perform
-returns c = (c .before .before .before .before .read-into .ensures .0, λ s h. rw (c .before .before .before .before .before .before .before .before .before .i .given .1) (c .before .before .before .before .read-into .ensures .1 s h))
+unfolding perform rest
+returns c =
+    let at-read-into = c .before .before .before .before in
+    let at-i = at-read-into .before .before .before .before .before in
+    let is = at-i .i .given .1 in
+    (at-read-into .read-into .ensures .0, λ s h. rw is (at-read-into .read-into .ensures .1 s (rw is at h)))
 
 returns-2 : tie.Need-returns-2
-unfolding perform
-returns-2 c = (c .before .before .before .before .before .before .store .ensures .0, λ s h. rw (c .before .before .before .before .before .before .before .before .before .before .before .i2 .given .1) (c .before .before .before .before .before .before .store .ensures .1 s h))
+unfolding perform rest
+returns-2 c =
+    let at-accumulated = c .before .before in
+    let at-past = at-accumulated .before .before .before .before in
+    let at-i4 = at-past .before .before .before in (
+      omega arith,
+      λ s h.
+          let e = at-past .past .ensures s (h .stands .bytes) (h .here) in
+          rw (at-i4 .i4 .given .1) (opened-does 1 (one e) (does _ (at-accumulated .accumulated .ensures _ e) ended)),
+    )
 
 returns-3 : tie.Need-returns-3
-unfolding perform
-returns-3 c = (c .before .before .before .before .before .before .change .ensures .0, λ s h. rw (c .before .before .before .before .before .before .before .before .before .before .before .i3 .given .1) (c .before .before .before .before .before .before .change .ensures .1 s h))
+unfolding perform rest
+returns-3 c =
+    let at-inside = c .before .before in
+    let at-past2 = at-inside .before .before .before .before in
+    let at-i5 = at-past2 .before .before .before in (
+      omega arith,
+      λ s h.
+          let e = at-past2 .past2 .ensures s (h .stands .bytes) (h .here) in
+          rw (at-i5 .i5 .given .1) (opened-does 1 (one e) (does _ (at-inside .inside .ensures _ e) ended)),
+    )
 
 returns-4 : tie.Need-returns-4
-unfolding perform
-returns-4 c = (omega arith, λ s h. rw (c .before .before .before .before .before .i4 .given .1) (does s (c .before .before .accumulated .ensures s (h .bytes)) ended))
+unfolding perform rest
+returns-4 c =
+    let at-at-stack = c .before .before .before .before .before .before in
+    let at-past3 = at-at-stack .before .before .before .before .before .before in
+    let at-i6 = at-past3 .before .before .before in (
+      at-at-stack .at-stack .ensures .0,
+      λ s h.
+          let e = at-past3 .past3 .ensures s (h .stands .bytes) (h .here) in
+          rw (at-i6 .i6 .given .1) (opened-does 1 (one e) (at-at-stack .at-stack .ensures .1 _ (stands-past 1 h e))),
+    )
 
 returns-5 : tie.Need-returns-5
-unfolding perform
-returns-5 c = (omega arith, λ s h. rw (c .before .before .before .before .before .i5 .given .1) (does s (c .before .before .inside .ensures s (h .bytes)) ended))
+unfolding perform rest
+returns-5 c =
+    let at-branch = c .before .before .before .before in
+    let at-i7 = at-branch .before .before .before .before .before in
+    (at-branch .branch .ensures .0, λ s h. rw (at-i7 .i7 .given .1) (at-branch .branch .ensures .1 s (h .stands) (h .here)))
 
 returns-6 : tie.Need-returns-6
-unfolding perform
-returns-6 c = (c .before .before .before .before .before .before .at-stack .ensures .0, λ s h. rw (c .before .before .before .before .before .before .before .before .before .before .before .i6 .given .1) (c .before .before .before .before .before .before .at-stack .ensures .1 s h))
+unfolding perform rest
+returns-6 c =
+    let at-set-pc = c .before .before in
+    let at-join = at-set-pc .before in
+    let at-third = at-join .before .before .before .before .before .before in
+    let at-i8 = at-third .before .before .before .before in
+    let is = at-i8 .i8 .given .1 in (
+      omega arith,
+      λ s h.
+          let o = at-third .third .ensures s _ (rw is at h) in
+          rw is (opened-does 3 o (does _ (rw (at-join .join .ensures) at (at-set-pc .set-pc .ensures _ (o .bytes))) ended)),
+    )
 
 returns-7 : tie.Need-returns-7
-unfolding perform
-returns-7 c = (c .before .before .before .before .branch .ensures .0, λ s h. rw (c .before .before .before .before .before .before .before .before .before .i7 .given .1) (c .before .before .before .before .branch .ensures .1 s h))
+unfolding perform rest
+returns-7 c =
+    let at-jump-indirect = c .before .before .before .before in
+    let at-join2 = at-jump-indirect .before .before .before .before in
+    let at-third2 = at-join2 .before .before .before .before .before in
+    let at-i9 = at-third2 .before .before .before .before in
+    let is = at-i9 .i9 .given .1 in (
+      omega arith,
+      λ s h.
+          let o = at-third2 .third2 .ensures s _ (rw is at h) in
+          let to = rw (at-join2 .join2 .ensures) at (at-jump-indirect .jump-indirect .ensures _ (stands-past 3 h (o .bytes))) in
+          rw is (opened-does 3 o to),
+    )
 
 returns-8 : tie.Need-returns-8
-unfolding perform
-returns-8 c = (omega arith, λ s h. rw (c .before .before .before .before .before .i8 .given .1) (does s (c .before .before .set-pc .ensures s (h .bytes)) ended))
+unfolding perform rest
+returns-8 c =
+    let at-jsr = c .before .before .before .before .before .before in
+    let at-i10 = at-jsr .before .before .before .before .before in
+    (omega arith, λ s h. rw (at-i10 .i10 .given .1) (at-jsr .jsr .ensures s (h .stands) (h .here)))
 
 returns-9 : tie.Need-returns-9
-unfolding perform
-returns-9 c = (omega arith, λ s h. rw (c .before .before .before .before .before .before .before .before .before .i9 .given .1) (c .before .before .before .before .jump-indirect .ensures s h))
+unfolding perform rest
+returns-9 c =
+    let at-brk = c .before .before .before .before .before .before in
+    let at-enum-told = at-brk .before .before .before .before in
+    (omega arith, λ s h. rw (at-enum-told .enum-told .given .1) (at-brk .brk .ensures s (h .stands) (h .here)))
 
 returns-10 : tie.Need-returns-10
-unfolding perform
-returns-10 c = (omega arith, λ s h. rw (c .before .before .before .before .before .before .before .before .before .before .before .i10 .given .1) (c .before .before .before .before .before .before .jsr .ensures s h))
+unfolding perform rest
+returns-10 c =
+    let at-txs = c .before .before in
+    let at-past4 = at-txs .before .before .before .before in
+    let at-enum-told2 = at-past4 .before .before in (
+      omega arith,
+      λ s h.
+          let e = at-past4 .past4 .ensures s (h .stands .bytes) (h .here) in
+          rw (at-enum-told2 .enum-told2 .given .1) (opened-does 1 (one e) (does _ (at-txs .txs .ensures _ e) ended)),
+    )
 
 returns-11 : tie.Need-returns-11
-unfolding perform
-returns-11 c = (omega arith, λ s h. rw (c .before .before .before .before .before .before .before .before .before .before .enum-told .given .1) (c .before .before .before .before .before .before .brk .ensures s h))
+unfolding perform rest
+returns-11 c =
+    let at-cli = c .before .before in
+    let at-past5 = at-cli .before .before .before .before in
+    let at-enum-told3 = at-past5 .before .before in (
+      omega arith,
+      λ s h.
+          let e = at-past5 .past5 .ensures s (h .stands .bytes) (h .here) in
+          rw (at-enum-told3 .enum-told3 .given .1) (opened-does 1 (one e) (does _ (at-cli .cli .ensures _ e) ended)),
+    )
 
 returns-12 : tie.Need-returns-12
-unfolding perform
-returns-12 c = (omega arith, λ s h. rw (c .before .before .before .before .enum-told2 .given .1) (does s (c .before .before .txs .ensures s (h .bytes)) ended))
+returns-12 c =
+    let start = c .before .before .before .before .before in
+    absurd (false≢true (rw (c .enum-told4 .given .1) at (start .pre .0)))
 
 returns-13 : tie.Need-returns-13
-unfolding perform
-returns-13 c = (omega arith, λ s h. rw (c .before .before .before .before .enum-told3 .given .1) (does s (c .before .before .cli .ensures s (h .bytes)) ended))
+unfolding perform rest
+returns-13 c =
+    let at-lay = c .before .before .before .before .before .before in
+    let at-match = at-lay .before .before .before .before in
+    let start = at-match .before .before .before .before in
+    let w = at-match .match in
+    let lays = ⊎-elim {C = Lays (w .i) (w .m)} (λ l. as-store (l .3) (l .4)) (λ l. as-change (l .3) (l .4)) (w .came) in
+    let same = ⊎-elim {C = w .i ≡ start .args .i} (λ l. l .3 ∙ sym (l .1 .given .1)) (λ l. l .3 ∙ sym (l .1 .given .1)) (w .came) in
+    (at-lay .lay .ensures .0, λ s h. rw same at (at-lay .lay .ensures .1 s (lays-fetched lays (rw same h))))
 
 pub perform-spec : {M : Type 1} → statement M
 perform-spec =
@@ -68,46 +162,54 @@ perform-spec =
     (λ c. search needs)
     (λ c κs. search needs)
     (λ c. search needs)
-    (λ c κs. search needs)
     (λ c. search needs)
-    change-requires
     (λ c. search needs)
     (λ c κs. search needs)
-    (λ c. search needs)
     (λ c κs. search needs)
     (λ c. search needs)
     (λ c κs. search needs)
-    (λ c. search needs)
     (λ c κs. search needs)
     (λ c. search needs)
+    (λ c κs. search needs)
     (λ c κs. search needs)
     (λ c. search needs)
     (λ c κs. search needs)
     (λ c. search needs)
     (λ c κs. search needs)
+    (λ c κs. search needs)
+    (λ c κs. search needs)
     (λ c. search needs)
+    (λ c κs. search needs)
+    (λ c κs. search needs)
     (λ c κs. search needs)
     (λ c. search needs)
     (λ c κs. search needs)
     (λ c. search needs)
     (λ c κs. search needs)
+    (λ c. search needs)
+    (λ c κs. search needs)
+    (λ c κs. search needs)
+    (λ c. search needs)
+    (λ c κs. search needs)
+    (λ c κs. search needs)
+    (λ c. search needs)
+    lay-requires
     (λ c. search needs)
     (λ c. search needs)
     (λ c. search needs)
     returns
     (λ c. search needs)
-    (λ c. search needs)
-    (λ c. search needs)
     returns-2
-    (λ c. search needs)
-    (λ c. search needs)
     (λ c. search needs)
     returns-3
     (λ c. search needs)
+    (λ c. search needs)
+    (λ c. search needs)
     returns-4
     (λ c. search needs)
-    returns-5
     (λ c. search needs)
+    (λ c. search needs)
+    returns-5
     (λ c. search needs)
     (λ c. search needs)
     returns-6
@@ -116,20 +218,19 @@ perform-spec =
     (λ c. search needs)
     returns-7
     (λ c. search needs)
+    (λ c. search needs)
+    (λ c. search needs)
     returns-8
     (λ c. search needs)
     (λ c. search needs)
     (λ c. search needs)
     returns-9
     (λ c. search needs)
-    (λ c. search needs)
-    (λ c. search needs)
     returns-10
     (λ c. search needs)
-    (λ c. search needs)
-    (λ c. search needs)
     returns-11
-    (λ c. search needs)
     returns-12
+    (λ c. search needs)
+    (λ c. search needs)
     (λ c. search needs)
     returns-13)

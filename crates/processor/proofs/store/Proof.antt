@@ -1,28 +1,19 @@
-use native.Mathlib.Omega.{arith}
-use Rattle.laws.proofs.Goes.{then-call, then-write, counted, ended}
-use Rattle.rules.specs.Cycles.{done, write}
 use Rattle.rules.specs.Addressing.{bankOf}
-use Rattle.rules.specs.Operations.{perform, registerOf}
+use Rattle.laws.proofs.Goes.{then-write, ended}
 use borrow.Author.Needs.{needs}
 use Rattle.processor.proofs.store.Statement.{statement}
 use Rattle.processor.proofs.store.Tie as tie
 
 returns : tie.Need-returns
-unfolding perform
-returns c = (
-  omega (arith, c .before .before .before .before .before .before .before .before .before .before .before .before .before .before .before .before .place .ensures .0 .0),
-  λ s h.
-      let v = c .before .before .before .before .before .before .before .before .before .before .register-of .ensures s (h .bytes) in
-      let wrote = rw v at (c .before .before .before .before .before .before .write .ensures s (bankOf (c .before .before .before .before .before .before .before .before .before .before .before .before .before .before .before .before .before .before .before .before .before .before .before .args .m)) (c .before .before .before .before .before .before .before .before .before .before .before .before .wiring-of .ensures .1 s h)) in
-      record {
-        cpu = s .cpu;
-        bus = _;
-        bytes = wrote .bytes;
-        goes =
-            then-call (λ p. write (bankOf (c .before .before .before .before .before .before .before .before .before .before .before .before .before .before .before .before .before .before .before .before .before .before .before .args .m)) p (registerOf (c .before .before .before .before .before .before .before .before .before .before .before .before .before .before .before .before .before .before .before .before .before .before .before .args .o) (s .cpu)) (done (s .cpu))) (c .before .before .before .before .before .before .before .before .before .before .before .before .before .before .before .before .place .ensures .1 s h)
-            (then-write _ (wrote .goes) (counted ended (omega arith)));
-      },
-)
+returns c =
+    let at-write = c .before .before .before .before .before .before in
+    let at-register-of = at-write .before .before .before .before in
+    let at-wiring-of = at-register-of .before .before in
+    let start = at-wiring-of .before .before .before .before .before in
+    λ s h.
+    let κ = bankOf (start .args .m) in
+    let wrote = rw (at-register-of .register-of .ensures _ (h .bytes)) at (at-write .write .ensures _ κ (at-wiring-of .wiring-of .ensures .1 _ h)) in
+    record { cpu = _; bus = _; bytes = wrote .bytes; goes = then-write _ (wrote .goes) ended }
 
 pub store-spec : {M : Type 1} → statement M
 store-spec =
@@ -31,8 +22,6 @@ store-spec =
     (λ c κs. search needs)
     (λ c κs. search needs)
     (λ c κs. search needs)
-    (λ c κs. search needs)
-    (λ c. search needs)
     (λ c. search needs)
     (λ c. search needs)
     (λ c. search needs)

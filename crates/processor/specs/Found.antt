@@ -1,0 +1,20 @@
+-- The three bytes at PC.
+use Prim.Native.Nat.{ℕ}
+use mathlib.Core.Path.{_≡_}
+use mathlib.Core.List.{List}
+use Rattle.rules.specs.declared.State.{State}
+use Rattle.rules.specs.Basics.{sum16}
+use Rattle.rules.specs.Cycles.{execution, Cycles, done, _>>=_, _>>_}
+use Rattle.rules.specs.Bus.{world, images, look}
+use Rattle.rules.specs.Addressing.{get}
+use Rattle.processor.specs.declared.Bytes.{Bytes}
+
+-- f is what reads at PC, PC+1 and PC+2 would find
+pub record Found (f : Bytes) (s : State) (i : List ℕ) : Type 0 where
+  pub opcode : f .opcode ≡ look images (world (s .bus) i) execution (s .cpu .pc)
+  pub low : f .low ≡ look images (world (s .bus) i) execution (sum16 (s .cpu .pc) 1)
+  pub high : f .high ≡ look images (world (s .bus) i) execution (sum16 (s .cpu .pc) 2)
+
+-- "Each cycle is one access": the first two of every instruction
+abbrev pub begun : ℕ → Cycles ℕ
+begun pc = get pc >> get (sum16 pc 1)
