@@ -60,31 +60,72 @@ fn previous(v: u8) -> u8
     std::num::wrapping_sub_u8(v, 1)
 }
 
+// Each operation reads the registers that it needs, and no others.
 pub fn inside(o: Internal, state: &mut [u8])
     requires { ⌜ length (now state) ≡ 16 ⌝ }
     ensures { λ r. ⌜ Makes (inside o) (now (state .entry)) (now (state .exit)) ⌝ }
 {
-    let a = state[state::A];
-    let x = state[state::X];
-    let y = state[state::Y];
-    let s = state[state::S];
-    let f = state::flags_of(state);
     match o {
-        Internal::Clc => state::set_flags(state, with_c(false, f)),
-        Internal::Sec => state::set_flags(state, with_c(true, f)),
-        Internal::Sei => state::set_flags(state, flags::with_i(true, f)),
-        Internal::Clv => state::set_flags(state, with_v(false, f)),
-        Internal::Cld => state::set_flags(state, with_d(false, f)),
-        Internal::Sed => state::set_flags(state, with_d(true, f)),
-        Internal::Tax => state::to(state, state::X, a),
-        Internal::Txa => state::to(state, state::A, x),
-        Internal::Tay => state::to(state, state::Y, a),
-        Internal::Tya => state::to(state, state::A, y),
-        Internal::Tsx => state::to(state, state::X, s),
-        Internal::Inx => state::to(state, state::X, next(x)),
-        Internal::Iny => state::to(state, state::Y, next(y)),
-        Internal::Dex => state::to(state, state::X, previous(x)),
-        Internal::Dey => state::to(state, state::Y, previous(y)),
+        Internal::Clc => {
+            let f = state::flags_of(state);
+            state::set_flags(state, with_c(false, f))
+        }
+        Internal::Sec => {
+            let f = state::flags_of(state);
+            state::set_flags(state, with_c(true, f))
+        }
+        Internal::Tsx => {
+            let s = state[state::S];
+            state::to(state, state::X, s)
+        }
+        Internal::Sei => {
+            let f = state::flags_of(state);
+            state::set_flags(state, flags::with_i(true, f))
+        }
+        Internal::Tya => {
+            let y = state[state::Y];
+            state::to(state, state::A, y)
+        }
+        Internal::Clv => {
+            let f = state::flags_of(state);
+            state::set_flags(state, with_v(false, f))
+        }
+        Internal::Cld => {
+            let f = state::flags_of(state);
+            state::set_flags(state, with_d(false, f))
+        }
+        Internal::Sed => {
+            let f = state::flags_of(state);
+            state::set_flags(state, with_d(true, f))
+        }
+        Internal::Txa => {
+            let x = state[state::X];
+            state::to(state, state::A, x)
+        }
+        Internal::Tax => {
+            let a = state[state::A];
+            state::to(state, state::X, a)
+        }
+        Internal::Dex => {
+            let x = state[state::X];
+            state::to(state, state::X, previous(x))
+        }
         Internal::Nop => {}
+        Internal::Dey => {
+            let y = state[state::Y];
+            state::to(state, state::Y, previous(y))
+        }
+        Internal::Tay => {
+            let a = state[state::A];
+            state::to(state, state::Y, a)
+        }
+        Internal::Iny => {
+            let y = state[state::Y];
+            state::to(state, state::Y, next(y))
+        }
+        Internal::Inx => {
+            let x = state[state::X];
+            state::to(state, state::X, next(x))
+        }
     }
 }

@@ -7,7 +7,7 @@ use rules::Reading;
 ghost use mathlib.Core.Path.{_≡_};
 ghost use lib.ListN.{length};
 ghost use Rattle.rules.specs.Arithmetic.{compare, bitTest};
-ghost use Rattle.rules.specs.Operations.{used};
+ghost use Rattle.rules.specs.Operations.{withP, used};
 ghost use Rattle.state.specs.Makes.{Makes};
 
 // "Compares set N, Z from the difference, C where no borrow."
@@ -31,26 +31,62 @@ fn bit_test(a: u8, m: u8, f: Flags) -> Flags
     }
 }
 
+// A register compared with a byte: of all registers only the flags change.
+fn compared(state: &mut [u8], r: u8, v: u8)
+    requires { ⌜ length (now state) ≡ 16 ⌝ }
+    ensures { λ u. ⌜ Makes (λ c. withP (compare r v (c .p)) c) (now (state .entry)) (now (state .exit)) ⌝ }
+{
+    let f = state::flags_of(state);
+    state::set_flags(state, compare(r, v, f))
+}
+
+// Each operation reads the registers that it needs, and no others.
 pub fn used(o: Reading, v: u8, state: &mut [u8])
     requires { ⌜ length (now state) ≡ 16 ⌝ }
     ensures { λ r. ⌜ Makes (used o v) (now (state .entry)) (now (state .exit)) ⌝ }
 {
-    let a = state[state::A];
-    let x = state[state::X];
-    let y = state[state::Y];
-    let f = state::flags_of(state);
     match o {
-        Reading::Ora => state::to(state, state::A, a | v),
-        Reading::And => state::to(state, state::A, a & v),
-        Reading::Eor => state::to(state, state::A, a ^ v),
-        Reading::Adc => state::to_result(state, sums::adc(a, v, f)),
+        Reading::Ora => {
+            let a = state[state::A];
+            state::to(state, state::A, a | v)
+        }
+        Reading::And => {
+            let a = state[state::A];
+            state::to(state, state::A, a & v)
+        }
+        Reading::Eor => {
+            let a = state[state::A];
+            state::to(state, state::A, a ^ v)
+        }
+        Reading::Adc => {
+            let a = state[state::A];
+            let f = state::flags_of(state);
+            state::to_result(state, sums::adc(a, v, f))
+        }
+        Reading::Bit => {
+            let a = state[state::A];
+            let f = state::flags_of(state);
+            state::set_flags(state, bit_test(a, v, f))
+        }
         Reading::Lda => state::to(state, state::A, v),
-        Reading::Cmp => state::set_flags(state, compare(a, v, f)),
-        Reading::Sbc => state::to_result(state, sums::sbc(a, v, f)),
+        Reading::Cmp => {
+            let a = state[state::A];
+            compared(state, a, v)
+        }
+        Reading::Sbc => {
+            let a = state[state::A];
+            let f = state::flags_of(state);
+            state::to_result(state, sums::sbc(a, v, f))
+        }
         Reading::Ldx => state::to(state, state::X, v),
         Reading::Ldy => state::to(state, state::Y, v),
-        Reading::Cpx => state::set_flags(state, compare(x, v, f)),
-        Reading::Cpy => state::set_flags(state, compare(y, v, f)),
-        Reading::Bit => state::set_flags(state, bit_test(a, v, f)),
+        Reading::Cpy => {
+            let y = state[state::Y];
+            compared(state, y, v)
+        }
+        Reading::Cpx => {
+            let x = state[state::X];
+            compared(state, x, v)
+        }
     }
 }

@@ -1,0 +1,13 @@
+use borrow.Author.Needs.{needs}
+use Rattle.operations.proofs.compared.Statement.{statement}
+use Rattle.operations.proofs.compared.Tie as tie
+
+returns : tie.Need-returns
+returns c =
+    let at-compare = c .before .before .before in
+    let at-flags-of = at-compare .before .before in
+    λ s e. rw (at-compare .compare .ensures, at-flags-of .flags-of .ensures s e) at (c .before .before .set-flags .ensures s e)
+
+pub compared-spec : {M : Type 1} → statement M
+compared-spec =
+    tie.close (tie.spec (λ c κs. search needs) (λ c κs. search needs) (λ c κs. search needs) (λ c. search needs) returns)
