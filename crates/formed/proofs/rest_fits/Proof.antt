@@ -7,13 +7,17 @@ use Rattle.formed.proofs.rest_fits.Statement.{statement}
 use Rattle.formed.proofs.rest_fits.Tie as tie
 
 returns : tie.Need-returns
-returns c = rw (c .if1 .taken) (none-6502 (c .before .args .first) (c .before .args .second) (c .before .args .level) (c .before .args .pages))
+returns c =
+    let given = c .before .args in
+    rw (c .if1 .taken) (none-6502 (given .first) (given .second) (given .level) (given .pages))
 
 returns-2 : tie.Need-returns-2
 returns-2 c = rw (c .if2 .taken) (sym (and-true _))
 
 returns-3 : tie.Need-returns-3
-returns-3 c = rw (c .if3 .taken) (none-6509 (c .before .before .before .args .first) (c .before .before .before .args .second) (c .before .before .before .args .level) (c .before .before .before .args .pages))
+returns-3 c =
+    let given = c .before .before .before .args in
+    rw (c .if3 .taken) (none-6509 (given .first) (given .second) (given .level) (given .pages))
 
 returns-4 : tie.Need-returns-4
 returns-4 c = rw (ne-eqb _ 2 (c .before .before .if1 .left), ne-eqb _ 8 (c .before .if2 .left), ne-eqb _ 9 (c .if3 .left))

@@ -5,7 +5,9 @@ use Rattle.formed.proofs.well_formed.Statement.{statement}
 use Rattle.formed.proofs.well_formed.Tie as tie
 
 returns : tie.Need-returns
-returns c = c .rest-fits .ensures ∙ flags-fit _ (sym (c .before .before .before .before .before .before .before .flags-fit .ensures) ∙ c .before .before .before .before .before .before .if1 .taken)
+returns c =
+    let at-if1 = c .before .before .before .before .before .before in
+    c .rest-fits .ensures ∙ flags-fit _ (sym (at-if1 .before .flags-fit .ensures) ∙ at-if1 .if1 .taken)
 
 returns-2 : tie.Need-returns-2
 returns-2 c = flags-unfit _ (sym (c .before .flags-fit .ensures) ∙ c .if1 .left)
