@@ -3,7 +3,10 @@ use Rattle.state.proofs.to.Statement.{statement}
 use Rattle.state.proofs.to.Tie as tie
 
 returns : tie.Need-returns
-returns c = λ s e. rw (c .before .before .set-flags .ensures s e, c .before .before .before .nzc .ensures, c .before .before .before .before .before .flags-of .ensures s e)
+returns c =
+    let at-nzc = c .before .before .before in
+    let at-flags-of = at-nzc .before .before in
+    λ s e. rw (c .before .before .set-flags .ensures s e, at-nzc .nzc .ensures, at-flags-of .flags-of .ensures s e)
 
 pub to-spec : {M : Type 1} → statement M
 to-spec =
