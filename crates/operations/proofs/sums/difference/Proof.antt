@@ -3,7 +3,10 @@ use Rattle.operations.proofs.sums.difference.Statement.{statement}
 use Rattle.operations.proofs.sums.difference.Tie as tie
 
 returns : tie.Need-returns
-returns c = rw (c .high-difference .ensures, c .before .high2 .ensures, c .before .before .low-difference .ensures .0, c .before .before .before .high .ensures)
+returns c =
+    let at-low-difference = c .before .before in
+    let at-high = at-low-difference .before in
+    rw (c .high-difference .ensures, c .before .high2 .ensures, at-low-difference .low-difference .ensures .0, at-high .high .ensures)
 
 pub difference-spec : {M : Type 1} → statement M
 difference-spec =

@@ -3,7 +3,11 @@ use Rattle.operations.proofs.sums.sbc.Statement.{statement}
 use Rattle.operations.proofs.sums.sbc.Tie as tie
 
 returns : tie.Need-returns
-returns c = rw (c .difference .ensures, c .before .bit .ensures .0, c .before .before .flags .given, c .before .before .before .before .binary .ensures, c .before .before .before .if1 .taken)
+returns c =
+    let at-flags = c .before .before in
+    let at-if1 = at-flags .before in
+    let at-binary = at-if1 .before in
+    rw (c .difference .ensures, c .before .bit .ensures .0, at-flags .flags .given, at-binary .binary .ensures, at-if1 .if1 .taken)
 
 returns-2 : tie.Need-returns-2
 returns-2 c = rw (c .before .binary .ensures, c .if1 .left)
