@@ -7,7 +7,8 @@ use Rattle.reads.proofs.look.Tie as tie
 returns : tie.Need-returns
 returns c = λ s κ h.
     let w = h .wired in
-    c .low-held .ensures s (h .bytes) (w .pins) ∙ (sym (look-low κ (s .bus) _ _ (w .sound .part) (rw (← (w .plain)) (c .before .if1 .taken))))
+    c .low-held .ensures s (h .bytes) (w .pins) ∙
+    (sym (look-low κ (s .bus) _ _ (w .sound .part) (rw (← (w .plain)) (c .before .if1 .taken))))
 
 returns-2 : tie.Need-returns-2
 returns-2 c = λ s κ h.

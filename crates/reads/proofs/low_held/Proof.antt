@@ -16,7 +16,9 @@ above : (a k : ℕ) → 1 < a → k ≤ 1 → a ≡ k → ⊥
 above a k h l e = omega arith
 
 returns : tie.Need-returns
-returns c = λ s e d. rw (ne-eqb _ 0 (above _ 0 (c .before .if1 .taken) (omega arith)), ne-eqb _ 1 (above _ 1 (c .before .if1 .taken) (omega arith)))
+returns c =
+    let high = c .before .if1 .taken in
+    λ s e d. rw (ne-eqb _ 0 (above _ 0 high (omega arith)), ne-eqb _ 1 (above _ 1 high (omega arith)))
 
 returns-2 : tie.Need-returns-2
 unfolding recordOf
@@ -26,8 +28,9 @@ returns-3 : tie.Need-returns-3
 unfolding recordOf
 returns-3 c = λ s e d.
     let part : s .bus .part ≡ 8 = rw e at (c .before .before .before .if3 .taken) in
-    let left = c .before .before .before .before .before .if2 .left in
-    rw (ne-eqb _ 0 left, eq-eqb _ 1 (second _ (c .before .before .before .before .before .before .if1 .left) left), eq-eqb _ 8 part, c .port .ensures, d, e)
+    let at-if2 = c .before .before .before .before .before in
+    let left = at-if2 .if2 .left in
+    rw (ne-eqb _ 0 left, eq-eqb _ 1 (second _ (at-if2 .before .if1 .left) left), eq-eqb _ 8 part, c .port .ensures, d, e)
 
 returns-4 : tie.Need-returns-4
 unfolding recordOf

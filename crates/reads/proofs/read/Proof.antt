@@ -5,7 +5,10 @@ use Rattle.reads.proofs.read.Tie as tie
 use Rattle.reads.proofs.read.Reads as own
 
 returns : tie.Need-returns
-returns c = λ s κ h. reads κ _ _ _ _ (s .bus) _ _ _ (c .before .before .before .before .look .ensures s κ h) (h .wired .bank) (c .before .before .note .ensures)
+returns c =
+    let at-note = c .before .before in
+    let at-look = at-note .before .before in
+    λ s κ h. reads κ _ _ _ _ (s .bus) _ _ _ (at-look .look .ensures s κ h) (h .wired .bank) (at-note .note .ensures)
 
 pub read-spec : {M : Type 1} → statement M
 read-spec = tie.close (tie.spec (λ c κs. search needs) (λ c κs. search needs) (λ c. search needs) returns)
