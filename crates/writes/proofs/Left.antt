@@ -49,7 +49,8 @@ store-register {κ} {w} {u} i p v q h some =
     rw (open-page (u .protected) p (omega (arith, q .sound .pages)), cell-register κ u p (q .sound .part) h (rw (q .plain) at some))
     (low-kept u i p v h)
   where
-    low-kept : (u : Bus) (i : List ℕ) (p v : ℕ) → p < 2 → kept images (world u i) (if eqb p 0 then first else second) v ≡ world (registered u p v) i
+    low-kept : (u : Bus) (i : List ℕ) (p v : ℕ) → p < 2 →
+        kept images (world u i) (if eqb p 0 then first else second) v ≡ world (registered u p v) i
     low-kept u i zero v h = refl
     low-kept u i (suc zero) v h = refl
     low-kept u i (suc (suc p)) v h = absurd (omega arith)

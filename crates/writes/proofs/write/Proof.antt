@@ -18,7 +18,8 @@ returns-2 c = λ s κ h.
     let at-set-register = c .before .before in
     let at-if1 = at-set-register .before .before .before in
     let at-note = at-if1 .before .before .before .before in
-    write-register _ _ _ h (at-set-register .before .before .if2 .taken) (at-if1 .if1 .left) (at-set-register .set-register .ensures s (h .bytes))
+    write-register _ _ _ h (at-set-register .before .before .if2 .taken) (at-if1 .if1 .left)
+    (at-set-register .set-register .ensures s (h .bytes))
     (at-note .note .ensures)
 
 returns-3 : tie.Need-returns-3
