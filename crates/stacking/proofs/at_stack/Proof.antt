@@ -9,8 +9,9 @@ returns c =
     let at-push = c .before .before .before .before .before .before in
     let at-with-bit-4 = at-push .before .before .before .before in
     let at-flags-of = at-with-bit-4 .before in
-    let at-enum-told = at-flags-of .before .before in
-    (omega arith, λ s h. rw (at-enum-told .enum-told .given .1) (rw (at-with-bit-4 .with-bit-4 .ensures, at-flags-of .flags-of .ensures s (h .bytes)) at (at-push .push .ensures s h)))
+    let told = at-flags-of .before .before .enum-told .given .1 in
+    let bit-4 = at-with-bit-4 .with-bit-4 .ensures in
+    (omega arith, λ s h. rw told (rw (bit-4, at-flags-of .flags-of .ensures s (h .bytes)) at (at-push .push .ensures s h)))
 
 returns-2 : tie.Need-returns-2
 returns-2 c =

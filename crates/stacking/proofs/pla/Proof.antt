@@ -17,8 +17,9 @@ returns c =
     let at-pulled = at-up .before .before .before .before in
     λ s h.
     let sp = s-of s (h .bytes) in
+    let raised = at-set-s .set-s .ensures s (h .bytes) in
     does s {c = toA (at-pulled .pulled .result) (withS (sum8 (s .cpu .s) 1) (s .cpu))}
-    (rw (at-up .up .ensures, sp) at (c .before .before .to .ensures (moved (withS _ (s .cpu)) (s .bus) s) (at-set-s .set-s .ensures s (h .bytes))))
+    (rw (at-up .up .ensures, sp) at (c .before .before .to .ensures (moved (withS _ (s .cpu)) (s .bus) s) raised))
     (then-call (λ v. done (toA v (withS (sum8 (s .cpu .s) 1) (s .cpu)))) (rw sp at (at-pulled .pulled .ensures s h)) ended)
 
 pub pla-spec : {M : Type 1} → statement M

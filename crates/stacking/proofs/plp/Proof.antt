@@ -3,7 +3,6 @@ use Rattle.rules.specs.Cycles.{done, _>>=_}
 use Rattle.rules.specs.Basics.{sum8}
 use Rattle.rules.specs.Flags.{flagsOf}
 use Rattle.rules.specs.Operations.{pull, withP, withS}
-use Rattle.laws.specs.States.{moved}
 use borrow.Author.Needs.{needs}
 use Rattle.state.proofs.Registers.{s-of}
 use Rattle.stacking.proofs.plp.Statement.{statement}
@@ -18,7 +17,8 @@ returns c =
     let at-pulled = at-up .before .before .before .before in
     λ s h.
     let sp = s-of s (h .bytes) in
-    does s (rw (at-flags-of .flags-of .ensures, at-up .up .ensures, sp) at (c .before .before .set-flags .ensures (moved (withS _ (s .cpu)) (s .bus) s) (at-set-s .set-s .ensures s (h .bytes))))
+    let raised = at-set-s .set-s .ensures s (h .bytes) in
+    does s (rw (at-flags-of .flags-of .ensures, at-up .up .ensures, sp) at (c .before .before .set-flags .ensures _ raised))
     (then-call (λ p. done (withP (flagsOf p) (withS (sum8 (s .cpu .s) 1) (s .cpu)))) (rw sp at (at-pulled .pulled .ensures s h)) ended)
 
 pub plp-spec : {M : Type 1} → statement M

@@ -35,10 +35,13 @@ returns c =
     let sp = s-of s (h .bytes) in
     let flagged = at-set-flags .set-flags .ensures s (h .bytes) in
     does s (rw (at-up3 .up3 .ensures, at-flags-of .flags-of .ensures, sp) at (c .before .before .set-s-pc .ensures _ flagged))
-    (then-call (λ p. wordAt (stack (sum8 (s .cpu .s) 2)) (stack (sum8 (s .cpu .s) 3)) >>= λ a. done (withPc a (withP (flagsOf p) (withS (sum8 (s .cpu .s) 3) (s .cpu)))))
+    (then-call (λ p. wordAt (stack (sum8 (s .cpu .s) 2)) (stack (sum8 (s .cpu .s) 3)) >>=
+    λ a. done (withPc a (withP (flagsOf p) (withS (sum8 (s .cpu .s) 3) (s .cpu)))))
     (rw sp at (at-pulled .pulled .ensures s h))
     (then-call (λ a. done (withPc a (withP (flagsOf (at-pulled .pulled .result)) (withS (sum8 (s .cpu .s) 3) (s .cpu)))))
-    (rw (at-stack2 .stack2 .ensures, at-up2 .up2 .ensures, at-stack .stack .ensures, at-up .up .ensures, sp) at (at-word-at .word-at .ensures s h)) ended))
+    (rw (at-stack2 .stack2 .ensures, at-up2 .up2 .ensures, at-stack .stack .ensures, at-up .up .ensures, sp)
+    at (at-word-at .word-at .ensures s h))
+    ended))
 
 pub rti-spec : {M : Type 1} → statement M
 rti-spec =

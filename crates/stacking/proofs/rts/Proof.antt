@@ -18,9 +18,11 @@ returns c =
     let at-stack = at-read .before in
     λ s h.
     let sp = s-of s (h .bytes) in
-    does s (rw (at-wrapping-add-u16 .wrapping-add-u16 .ensures, at-up .up .ensures, sp) at (c .before .before .set-s-pc .ensures s (h .bytes)))
+    does s
+    (rw (at-wrapping-add-u16 .wrapping-add-u16 .ensures, at-up .up .ensures, sp) at (c .before .before .set-s-pc .ensures s (h .bytes)))
     (then-read _ (rw (at-stack .stack .ensures, sp) at (at-read .read .ensures s execution h))
-    (then-call (λ a. read execution a (λ v. done (withPc (sum16 a 1) (withS (sum8 (s .cpu .s) 2) (s .cpu))))) (rw sp at (at-word-above .word-above .ensures s h))
+    (then-call (λ a. read execution a (λ v. done (withPc (sum16 a 1) (withS (sum8 (s .cpu .s) 2) (s .cpu)))))
+    (rw sp at (at-word-above .word-above .ensures s h))
     (then-read _ (at-read2 .read2 .ensures s execution h) ended)))
 
 pub rts-spec : {M : Type 1} → statement M

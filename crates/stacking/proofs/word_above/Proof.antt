@@ -8,7 +8,8 @@ returns c =
     let at-up2 = at-stack2 .before in
     let at-stack = at-up2 .before in
     let at-up = at-stack .before in
-    λ t h. rw (at-stack2 .stack2 .ensures, at-up2 .up2 .ensures, at-stack .stack .ensures, at-up .up .ensures) at (c .before .before .word-at .ensures t h)
+    λ t h. rw (at-stack2 .stack2 .ensures, at-up2 .up2 .ensures, at-stack .stack .ensures, at-up .up .ensures)
+    at (c .before .before .word-at .ensures t h)
 
 pub word-above-spec : {M : Type 1} → statement M
 word-above-spec =
