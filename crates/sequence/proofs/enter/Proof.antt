@@ -30,8 +30,12 @@ returns c =
     λ s h.
     let sp = s-of s (h .bytes) in
     let lowered = at-set-s .set-s .ensures _ (at-set-flags .set-flags .ensures s (h .bytes)) in
-    does s (rw (at-down .down .ensures, at-with-i .with-i .ensures, at-flags-of .flags-of .ensures s (h .bytes), sp) at (c .before .before .set-pc .ensures _ lowered))
-    (then-call (λ a. done (withPc a (withP (withI true (s .cpu .p)) (withS (down 3 (s .cpu .s)) (s .cpu))))) (at-word-at .word-at .ensures s h) ended)
+    does s
+    (rw (at-down .down .ensures, at-with-i .with-i .ensures, at-flags-of .flags-of .ensures s (h .bytes), sp)
+    at (c .before .before .set-pc .ensures _ lowered))
+    (then-call (λ a. done (withPc a (withP (withI true (s .cpu .p)) (withS (down 3 (s .cpu .s)) (s .cpu)))))
+    (at-word-at .word-at .ensures s h)
+    ended)
 
 pub enter-spec : {M : Type 1} → statement M
 enter-spec =
