@@ -24,9 +24,7 @@ returns-2 c =
 
 returns-3 : tie.Need-returns-3
 unfolding inside recordOf
-returns-3 c =
-    let at-enum-told3 = c .before .before .before .before .before in
-    λ s e. rw (at-enum-told3 .enum-told3 .given .1, c .before .before .to .ensures s e, e)
+returns-3 c = λ s e. rw (c .before .before .before .before .before .enum-told3 .given .1, c .before .before .to .ensures s e, e)
 
 returns-4 : tie.Need-returns-4
 unfolding inside
@@ -39,9 +37,7 @@ returns-4 c =
 
 returns-5 : tie.Need-returns-5
 unfolding inside recordOf
-returns-5 c =
-    let at-enum-told5 = c .before .before .before .before .before in
-    λ s e. rw (at-enum-told5 .enum-told5 .given .1, c .before .before .to2 .ensures s e, e)
+returns-5 c = λ s e. rw (c .before .before .before .before .before .enum-told5 .given .1, c .before .before .to2 .ensures s e, e)
 
 returns-6 : tie.Need-returns-6
 unfolding inside
@@ -72,15 +68,11 @@ returns-8 c =
 
 returns-9 : tie.Need-returns-9
 unfolding inside recordOf
-returns-9 c =
-    let at-enum-told9 = c .before .before .before .before .before in
-    λ s e. rw (at-enum-told9 .enum-told9 .given .1, c .before .before .to3 .ensures s e, e)
+returns-9 c = λ s e. rw (c .before .before .before .before .before .enum-told9 .given .1, c .before .before .to3 .ensures s e, e)
 
 returns-10 : tie.Need-returns-10
 unfolding inside recordOf
-returns-10 c =
-    let at-enum-told10 = c .before .before .before .before .before in
-    λ s e. rw (at-enum-told10 .enum-told10 .given .1, c .before .before .to4 .ensures s e, e)
+returns-10 c = λ s e. rw (c .before .before .before .before .before .enum-told10 .given .1, c .before .before .to4 .ensures s e, e)
 
 returns-11 : tie.Need-returns-11
 unfolding inside recordOf
@@ -102,9 +94,7 @@ returns-13 c =
 
 returns-14 : tie.Need-returns-14
 unfolding inside recordOf
-returns-14 c =
-    let at-enum-told14 = c .before .before .before .before .before in
-    λ s e. rw (at-enum-told14 .enum-told14 .given .1, c .before .before .to7 .ensures s e, e)
+returns-14 c = λ s e. rw (c .before .before .before .before .before .enum-told14 .given .1, c .before .before .to7 .ensures s e, e)
 
 returns-15 : tie.Need-returns-15
 unfolding inside recordOf

@@ -7,21 +7,15 @@ use Rattle.operations.proofs.used.Tie as tie
 
 returns : tie.Need-returns
 unfolding used recordOf
-returns c =
-    let at-enum-told = c .before .before .before .before .before in
-    λ s e. rw (at-enum-told .enum-told .given .1, c .before .before .to .ensures s e, e)
+returns c = λ s e. rw (c .before .before .before .before .before .enum-told .given .1, c .before .before .to .ensures s e, e)
 
 returns-2 : tie.Need-returns-2
 unfolding used recordOf
-returns-2 c =
-    let at-enum-told2 = c .before .before .before .before .before in
-    λ s e. rw (at-enum-told2 .enum-told2 .given .1, c .before .before .to2 .ensures s e, e)
+returns-2 c = λ s e. rw (c .before .before .before .before .before .enum-told2 .given .1, c .before .before .to2 .ensures s e, e)
 
 returns-3 : tie.Need-returns-3
 unfolding used recordOf
-returns-3 c =
-    let at-enum-told3 = c .before .before .before .before .before in
-    λ s e. rw (at-enum-told3 .enum-told3 .given .1, c .before .before .to3 .ensures s e, e)
+returns-3 c = λ s e. rw (c .before .before .before .before .before .enum-told3 .given .1, c .before .before .to3 .ensures s e, e)
 
 returns-4 : tie.Need-returns-4
 unfolding used
@@ -43,8 +37,7 @@ returns-5 c =
 
 returns-6 : tie.Need-returns-6
 unfolding used recordOf
-returns-6 c =
-    λ s e. rw (c .before .before .before .before .enum-told6 .given .1, c .before .before .to4 .ensures s e)
+returns-6 c = λ s e. rw (c .before .before .before .before .enum-told6 .given .1, c .before .before .to4 .ensures s e)
 
 returns-7 : tie.Need-returns-7
 unfolding used
@@ -63,13 +56,11 @@ returns-8 c =
 
 returns-9 : tie.Need-returns-9
 unfolding used recordOf
-returns-9 c =
-    λ s e. rw (c .before .before .before .before .enum-told9 .given .1, c .before .before .to5 .ensures s e)
+returns-9 c = λ s e. rw (c .before .before .before .before .enum-told9 .given .1, c .before .before .to5 .ensures s e)
 
 returns-10 : tie.Need-returns-10
 unfolding used recordOf
-returns-10 c =
-    λ s e. rw (c .before .before .before .before .enum-told10 .given .1, c .before .before .to6 .ensures s e)
+returns-10 c = λ s e. rw (c .before .before .before .before .enum-told10 .given .1, c .before .before .to6 .ensures s e)
 
 returns-11 : tie.Need-returns-11
 unfolding used
