@@ -2,37 +2,37 @@
 
 use rules::Refusal;
 ghost use mathlib.Core.Path.{_≡_};
-ghost use Rattle.rules.specs.Step.{linesFit};
-ghost use Rattle.checks.specs.Checks.{banksFor, fitOf};
+ghost use Rattle.rules.specs.Step.{imageFits, linesFit};
+ghost use Rattle.checks.specs.Checks.{fitOf};
 
-// Whether a record and an image fit: the image's banks, or why not.
+// Whether a record and an image fit, or why not.
 pub enum Checked {
-    Banks(u8),
+    Fit,
     Refused(Refusal),
 }
 
-// "The image is 65,536 bytes; for the 6509, k banks of that size, k = 1, 2, 4, 8 or 16"; 0 for any other length.
-fn banks_of(part: u8, size: usize) -> u8
-    ensures { λ r. ⌜ r ≡ banksFor part size ⌝ }
+// "The image is 65,536 bytes; for the 6509, k banks of that size, k = 1, 2, 4, 8 or 16"
+fn image_fits(part: u8, size: usize) -> bool
+    ensures { λ r. ⌜ r ≡ imageFits part size ⌝ }
 {
     if size == 65536 {
-        return 1;
+        return true;
     }
     if part == 9 {
         if size == 131072 {
-            return 2;
+            return true;
         }
         if size == 262144 {
-            return 4;
+            return true;
         }
         if size == 524288 {
-            return 8;
+            return true;
         }
         if size == 1048576 {
-            return 16;
+            return true;
         }
     }
-    0
+    false
 }
 
 // "line bits 3 to 7 set; NMI on 6508; pins not 0 off the 6508"
@@ -58,9 +58,8 @@ pub fn fit(state: &[u8], image: &[u8]) -> Checked
     if !formed::well_formed(state) {
         return Checked::Refused(Refusal::Malformed);
     }
-    let banks = banks_of(state[0], image.len());
-    if banks == 0 {
+    if !image_fits(state[0], image.len()) {
         return Checked::Refused(Refusal::ImageLength);
     }
-    Checked::Banks(banks)
+    Checked::Fit
 }

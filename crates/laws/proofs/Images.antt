@@ -15,7 +15,9 @@ use Rattle.rules.specs.declared.StepAnswer.{StepAnswer}
 use Rattle.rules.specs.Basics.{if_then_else_, at}
 use Rattle.rules.specs.Cycles.{Bank, execution, Ran}
 use Rattle.rules.specs.Opcodes.{decode, isDefined}
-use Rattle.rules.specs.Interrupts.{Event, res, nmi, irq, execute, cyclesOf}
+use Rattle.rules.specs.declared.Event.{Event}
+use Rattle.rules.specs.declared.Event.the-variants.{Res, Nmi, Irq, Execute}
+use Rattle.rules.specs.Interrupts.{cyclesOf}
 use Rattle.rules.specs.Bus.{is6508, selected, port, narrow, withRegisters, isProtected, Cell, first, second, byte, cellOf, images, Chart, poked, charts, World, world, held, kept, look, stored, board}
 use Rattle.rules.specs.Step.{Outcome, busAt, ranOf, finished, opcodeOf, canStep, stateNow, eventNow, refused, stepTests, step}
 use Rattle.laws.proofs.Tests.{if-both, tested-both}
@@ -70,10 +72,10 @@ module _ (m : List ℕ) (f : Chart) (h : Holds m f) where
   opcode-same u = look-shown (world (u .bus) m) (world (u .bus) f) (record { bus = refl; image = h }) execution (u .cpu .pc)
 
   can-same : (e : Event) (u : State) → canStep images e u m ≡ canStep charts e u f
-  can-same res u = refl
-  can-same nmi u = refl
-  can-same irq u = refl
-  can-same execute u = ap (λ (op : ℕ). isDefined (decode op)) (opcode-same u)
+  can-same Res u = refl
+  can-same Nmi u = refl
+  can-same Irq u = refl
+  can-same Execute u = ap (λ (op : ℕ). isDefined (decode op)) (opcode-same u)
 
 pub record SameStep (x : Outcome StepAnswer (List ℕ)) (y : Outcome StepAnswer Chart) : Type 0 where
   pub answer : x .answer ≡ y .answer

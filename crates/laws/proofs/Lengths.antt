@@ -19,7 +19,9 @@ use Rattle.rules.specs.Cycles.{Bank, execution, indirect, _>>=_, Device, run}
 use Rattle.rules.specs.Opcodes.{Entry, undefined, alone, byte, word, late, Row, rows, among, decode, isDefined}
 use Rattle.rules.specs.Addressing.{load, place, pointer, zeroIndexed, indexed, crosses, loadIndexed}
 use Rattle.rules.specs.Operations.{branchTo, enter, push, pull, jsr, rts, rti, brk, jumpIndirect, perform, operate, instruction, taken, target, next}
-use Rattle.rules.specs.Interrupts.{Event, res, nmi, irq, execute, interrupt, reset, cyclesOf}
+use Rattle.rules.specs.declared.Event.{Event}
+use Rattle.rules.specs.declared.Event.the-variants.{Res, Nmi, Irq, Execute}
+use Rattle.rules.specs.Interrupts.{interrupt, reset, cyclesOf}
 use Rattle.rules.specs.Bus.{Memory, world, board}
 use Rattle.rules.specs.Step.{ranOf, opcodeOf, canStep}
 use Rattle.laws.proofs.Tests.{and-left, and-right}
@@ -169,10 +171,10 @@ decode-short n low high = among-short rows n low high (rows-short low high)
 
 pub at-most-seven : (e : Event) (c : Cpu) → Most 7 (cyclesOf e c)
 unfolding cyclesOf instruction reset interrupt enter _>>=_
-at-most-seven res c = λ a b d e f low high. tt
-at-most-seven nmi c = λ a b low high. tt
-at-most-seven irq c = λ a b low high. tt
-at-most-seven execute c = λ op. operate-most 4 (decode op) (next c) (decode-short op)
+at-most-seven Res c = λ a b d e f low high. tt
+at-most-seven Nmi c = λ a b low high. tt
+at-most-seven Irq c = λ a b low high. tt
+at-most-seven Execute c = λ op. operate-most 4 (decode op) (next c) (decode-short op)
 
 operate-one : {W : Type 0} (d : Device W) (e : Entry) (c : Cpu) (w : W) → isDefined e ≡ true → 1 ≤ length (run d (operate e c) w .list)
 unfolding operate run _>>=_
@@ -185,8 +187,8 @@ operate-one d (late f) c w h = omega arith
 pub two-least : {M : Type 0} (memory : Memory M) (e : Event) (u : State) (m : M) → canStep memory e u m ≡ true →
     2 ≤ length (ranOf memory e u m .list)
 unfolding cyclesOf instruction reset interrupt enter run _>>=_
-two-least memory res u m h = omega arith
-two-least memory nmi u m h = omega arith
-two-least memory irq u m h = omega arith
-two-least memory execute u m h =
+two-least memory Res u m h = omega arith
+two-least memory Nmi u m h = omega arith
+two-least memory Irq u m h = omega arith
+two-least memory Execute u m h =
     omega (arith, operate-one (board memory) (decode (opcodeOf memory u m)) (next (u .cpu)) (world (u .bus) m) h)

@@ -15,7 +15,9 @@ use Rattle.rules.specs.declared.Bus.{Bus}
 use Rattle.rules.specs.Basics.{if_then_else_, all, bit, at, address}
 use Rattle.rules.specs.Cycles.{Bank, execution, indirect, Access}
 use Rattle.rules.specs.Flags.{byteOf, flagsOf}
-use Rattle.rules.specs.Interrupts.{Event, res, nmi, irq, execute, nmiOf, cyclesOf}
+use Rattle.rules.specs.declared.Event.{Event}
+use Rattle.rules.specs.declared.Event.the-variants.{Res, Nmi, Irq, Execute}
+use Rattle.rules.specs.Interrupts.{nmiOf, cyclesOf}
 use Rattle.rules.specs.Bus.{is6502, is6508, is6509, Memory, World, world, narrow, first, second, byte, cellOf, imageAt, selected, kept, stored, isProtected, resetBus, board}
 use Rattle.rules.specs.Record.{long, stateOf, recordOf, wellFormed, partFits, flagsFit, registerFits, levelFits, pagesFit}
 use Rattle.rules.specs.Step.{linesFit, busAt, ranOf}
@@ -182,12 +184,12 @@ module _ {M : Type 0} (memory : Memory M) (k c : ℕ) where
 
   bus-fit : (e : Event) (b : Bus) → Fit k c b → Fit k c (busAt e b)
   unfolding resetBus
-  bus-fit res b f =
+  bus-fit Res b f =
       let v : registerFits k (if is6509 (b .part) then 15 else 0) ≡ true = rw (f .part) (reset-fits k) in
       record { part = f .part; protected = f .protected; first = v; second = v }
-  bus-fit nmi b f = f
-  bus-fit irq b f = f
-  bus-fit execute b f = f
+  bus-fit Nmi b f = f
+  bus-fit Irq b f = f
+  bus-fit Execute b f = f
 
   pub ran-fit : (e : Event) (u : State) (m : M) → Fit k c (u .bus) → Fit k c (ranOf memory e u m .after .bus)
   ran-fit e u m f =

@@ -13,7 +13,8 @@ use Rattle.rules.specs.declared.StepAnswer.{StepAnswer}
 use Rattle.rules.specs.declared.StepAnswer.the-variants.{Stepped, Refused}
 use Rattle.rules.specs.Basics.{at}
 use Rattle.rules.specs.Cycles.{Access}
-use Rattle.rules.specs.Interrupts.{Event, cyclesOf}
+use Rattle.rules.specs.declared.Event.{Event}
+use Rattle.rules.specs.Interrupts.{cyclesOf}
 use Rattle.rules.specs.Bus.{Memory, world, board, listOf}
 use Rattle.rules.specs.Record.{cyclesIn, stateOf, recordOf, wellFormed}
 use Rattle.rules.specs.Step.{Outcome, linesFit, front, busAt, ranOf, stateAfter, finished, canStep, stateNow, eventNow, refused, stepTests, step}

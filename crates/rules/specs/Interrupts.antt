@@ -2,6 +2,8 @@
 use Prim.Native.Nat.{ℕ}
 use mathlib.Core.Bool.{Bool, not, _&&_}
 use Rattle.rules.specs.declared.Cpu.{Cpu}
+use Rattle.rules.specs.declared.Event.{Event}
+use Rattle.rules.specs.declared.Event.the-variants.{Res, Nmi, Irq, Execute}
 use Rattle.rules.specs.Basics.{if_then_else_, bitOf}
 use Rattle.rules.specs.Cycles.{Cycles, _>>=_, _>>_}
 use Rattle.rules.specs.Flags.{byteOf}
@@ -18,13 +20,10 @@ nmiOf lines = bitOf 2 lines
 abbrev pub irqOf : ℕ → Bool
 irqOf lines = bitOf 4 lines
 
-pub data Event : Type 0 where
-  res nmi irq execute : Event
-
 -- "First that applies: RES; NMI asserted with last level 0; IRQ with I = 0; else the instruction at PC." last is the last NMI level.
 unfoldable pub eventOf : ℕ → Bool → Cpu → Event
 eventOf lines last c =
-    if resOf lines then res else if nmiOf lines && not last then nmi else if irqOf lines && not (c .p .i) then irq else execute
+    if resOf lines then Res else if nmiOf lines && not last then Nmi else if irqOf lines && not (c .p .i) then Irq else Execute
 
 -- "IRQ, NMI: read PC twice, push PC high, low, P (bit 4 clear), read the vector (FFFE, FFFA), set I."
 unfoldable pub interrupt : ℕ → Cpu → Cycles Cpu
@@ -47,7 +46,7 @@ reset c = do
 
 -- a step's accesses
 unfoldable pub cyclesOf : Event → Cpu → Cycles Cpu
-cyclesOf res c = reset c
-cyclesOf nmi c = interrupt 0xFFFA c
-cyclesOf irq c = interrupt 0xFFFE c
-cyclesOf execute c = instruction c
+cyclesOf Res c = reset c
+cyclesOf Nmi c = interrupt 0xFFFA c
+cyclesOf Irq c = interrupt 0xFFFE c
+cyclesOf Execute c = instruction c

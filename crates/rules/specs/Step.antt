@@ -14,7 +14,9 @@ use Rattle.rules.specs.declared.StepAnswer.the-variants.{Stepped, Refuse
 use Rattle.rules.specs.Basics.{at}
 use Rattle.rules.specs.Cycles.{execution, Ran, run}
 use Rattle.rules.specs.Opcodes.{decode, isDefined}
-use Rattle.rules.specs.Interrupts.{nmiOf, Event, res, nmi, irq, execute, eventOf, cyclesOf}
+use Rattle.rules.specs.declared.Event.{Event}
+use Rattle.rules.specs.declared.Event.the-variants.{Res, Nmi, Irq, Execute}
+use Rattle.rules.specs.Interrupts.{nmiOf, eventOf, cyclesOf}
 use Rattle.rules.specs.Bus.{is6508, is6509, resetBus, Memory, World, world, look, board, listOf}
 use Rattle.rules.specs.Record.{stateOf, recordOf, wellFormed}
 use Rattle.rules.specs.Answers.{Test, _unless_, tested}
@@ -41,10 +43,10 @@ linesFit part lines pins = ltb lines 8 && not (is6508 part && nmiOf lines) && (i
 
 -- RES sets the bus's registers "before its first access"
 abbrev pub busAt : Event → Bus → Bus
-busAt res b = resetBus b
-busAt nmi b = b
-busAt irq b = b
-busAt execute b = b
+busAt Res b = resetBus b
+busAt Nmi b = b
+busAt Irq b = b
+busAt Execute b = b
 
 -- "These fill the buffer's front; later bytes stay."
 abbrev pub front : List ℕ → List ℕ → List ℕ
@@ -79,10 +81,10 @@ module _ {M : Type 0} (memory : Memory M) where
   opcodeOf u m = look memory (world (u .bus) m) execution (u .cpu .pc)
 
   abbrev pub canStep : Event → State → M → Bool
-  canStep res u m = true
-  canStep nmi u m = true
-  canStep irq u m = true
-  canStep execute u m = isDefined (decode (opcodeOf u m))
+  canStep Res u m = true
+  canStep Nmi u m = true
+  canStep Irq u m = true
+  canStep Execute u m = isDefined (decode (opcodeOf u m))
 
   module _ (r : List ℕ) (m : M) where
     -- what step and run refuse first

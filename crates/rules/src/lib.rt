@@ -154,6 +154,14 @@ pub enum Instruction {
     Undefined,
 }
 
+// What a step takes.
+pub enum Event {
+    Res,
+    Nmi,
+    Irq,
+    Execute,
+}
+
 // Why a call is refused, in the order of the documents' numbers, with the details.
 pub enum Refusal {
     RecordLength,

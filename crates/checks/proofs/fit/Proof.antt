@@ -1,10 +1,5 @@
-use mathlib.Core.Path.{sym, ap, _∙_}
-use lib.ListN.{length}
-use denote.Ref.{now}
-use Rattle.rules.specs.Basics.{at}
 use borrow.Author.Tests.{ne-eqb, eq-eqb, not-true, not-false}
-use Rattle.checks.specs.declared.Checked.the-variants.{Banks}
-use Rattle.checks.proofs.Laws.{banks-in, banks-out}
+use mathlib.Core.Path.{sym, _∙_}
 use borrow.Author.Needs.{needs}
 use Rattle.checks.proofs.fit.Statement.{statement}
 use Rattle.checks.proofs.fit.Tie as tie
@@ -16,13 +11,18 @@ returns-2 : tie.Need-returns-2
 returns-2 c = rw (eq-eqb _ 16 (c .before .before .if1 .left), sym (c .before .well-formed .ensures) ∙ not-true _ (c .if2 .taken))
 
 returns-3 : tie.Need-returns-3
-returns-3 c = rw (eq-eqb _ 16 (c .before .before .before .before .before .if1 .left), sym (c .before .before .before .before .well-formed .ensures) ∙ not-false _ (c .before .before .before .if2 .left), banks-out _ _ _ (c .before .banks-of .ensures) (c .if3 .taken))
+returns-3 c =
+    let at-if2 = c .before .before .before in
+    let formed = sym (at-if2 .before .well-formed .ensures) ∙ not-false _ (at-if2 .if2 .left) in
+    let image = sym (c .before .image-fits .ensures) ∙ not-true _ (c .if3 .taken) in
+    rw (eq-eqb _ 16 (at-if2 .before .before .if1 .left), formed, image)
 
 returns-4 : tie.Need-returns-4
 returns-4 c =
-    let fits = banks-in (at (now (c .before .before .before .before .before .before .before .before .args .state)) 0) (length (now (c .before .before .before .before .before .before .before .before .args .image))) _ (c .before .banks-of .ensures) (c .if3 .left) in
-    let formed = sym (c .before .before .before .before .well-formed .ensures) ∙ not-false _ (c .before .before .before .if2 .left) in
-    rw (eq-eqb _ 16 (c .before .before .before .before .before .if1 .left), formed, fits .0) (ap Banks (fits .1))
+    let at-if2 = c .before .before .before in
+    let formed = sym (at-if2 .before .well-formed .ensures) ∙ not-false _ (at-if2 .if2 .left) in
+    let image = sym (c .before .image-fits .ensures) ∙ not-false _ (c .if3 .left) in
+    rw (eq-eqb _ 16 (at-if2 .before .before .if1 .left), formed, image)
 
 pub fit-spec : {M : Type 1} → statement M
 fit-spec =

@@ -1,6 +1,6 @@
 use Rattle.checks.proofs.Laws.{none-of-five, not-one}
-use Rattle.checks.proofs.banks_of.Statement.{statement}
-use Rattle.checks.proofs.banks_of.Tie as tie
+use Rattle.checks.proofs.image_fits.Statement.{statement}
+use Rattle.checks.proofs.image_fits.Tie as tie
 
 returns : tie.Need-returns
 returns c = rw (c .if1 .taken)
@@ -18,11 +18,14 @@ returns-5 : tie.Need-returns-5
 returns-5 c = rw (c .if6 .taken, c .before .before .before .before .if2 .taken)
 
 returns-6 : tie.Need-returns-6
-returns-6 c = rw (c .before .before .before .before .if2 .taken) (none-of-five _ (c .before .before .before .before .before .if1 .left) (c .before .before .before .if3 .left) (c .before .before .if4 .left) (c .before .if5 .left) (c .if6 .left))
+returns-6 c =
+    let at-if2 = c .before .before .before .before in
+    rw (at-if2 .if2 .taken)
+    (none-of-five _ (at-if2 .before .if1 .left) (c .before .before .before .if3 .left) (c .before .before .if4 .left) (c .before .if5 .left)
+    (c .if6 .left))
 
 returns-7 : tie.Need-returns-7
 returns-7 c = not-one _ _ (c .if2 .left) (c .before .if1 .left)
 
-pub banks-of-spec : {M : Type 1} → statement M
-banks-of-spec =
-    tie.close (tie.spec returns returns-2 returns-3 returns-4 returns-5 returns-6 returns-7)
+pub image-fits-spec : {M : Type 1} → statement M
+image-fits-spec = tie.close (tie.spec returns returns-2 returns-3 returns-4 returns-5 returns-6 returns-7)
