@@ -1,5 +1,6 @@
 // The functions that a blade's board calls: numbers and byte slices in, one word out.
 
+use checks::Checked;
 use rules::AppendAnswer;
 use rules::Numbers;
 use rules::RestartAnswer;
@@ -9,10 +10,9 @@ ghost use Rattle.rules.specs.Bus.{images};
 ghost use Rattle.rules.specs.Step.{step};
 ghost use Rattle.rules.specs.Run.{runOf};
 ghost use Rattle.rules.specs.Restart.{restart, appendAt};
-ghost use Rattle.step.specs.Parts.{left};
-ghost use Rattle.run.specs.Words.{worded};
+ghost use Rattle.step.specs.Parts.{left, worded};
 
-// "Step: 1 to 6 in order": a run of one step. So the step's code stands at one place, within the run's loop.
+// "Step: 1 to 6 in order"
 #[no_mangle]
 pub extern "C" fn wankitare_step(
     state: &mut [u8],
@@ -24,17 +24,17 @@ pub extern "C" fn wankitare_step(
     ensures { λ r. ⌜ left r (now (state .exit)) (now (image .exit)) (now (accesses .exit))
         ≡ worded stepWord (step images (now (state .entry)) (now (image .entry)) lines pins (now (accesses .entry))) ⌝ }
 {
-    let script = [lines, pins];
-    let mut tally = [0, 0];
-    let word = run::run(state, image, &script, accesses, &mut tally);
-    if word != 0 {
-        return word;
+    match checks::fit(state, image) {
+        Checked::Fit => {
+            if lines == 0 {
+                if pins == 0 {
+                    return step::quiet(state, image, accesses);
+                }
+            }
+            step::step(state, image, lines, pins, accesses)
+        }
+        Checked::Refused(e) => words::refusal_word(e),
     }
-    words::packed(Numbers {
-        number: 0,
-        small: tally[1] as u8,
-        large: 0,
-    })
 }
 
 #[no_mangle]

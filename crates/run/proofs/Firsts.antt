@@ -19,10 +19,10 @@ module _ (r m l s : List ℕ) where
   unfolding runOf
   run-unfit e h = sym (unfit r m (drop 3 (runTests images r m s l)) (stopped images (start images r m s l)) _ e h)
 
-  pub odd : (k : ℕ) → Fits r m k → (length s % 2 ≡ 0 → ⊥) → left (Stopped 0 0 ScriptLength) r m l ≡ runOf images r m s l
+  pub odd : Fits r m → (length s % 2 ≡ 0 → ⊥) → left (Stopped 0 0 ScriptLength) r m l ≡ runOf images r m s l
   unfolding runOf
-  odd k f h = rw (eq-eqb (length r) 16 (f .whole), f .formed, f .image, ne-eqb (length s % 2) 0 h)
+  odd f h = rw (eq-eqb (length r) 16 (f .whole), f .formed, f .image, ne-eqb (length s % 2) 0 h)
 
-  pub even : (k : ℕ) → Fits r m k → length s % 2 ≡ 0 → play images s (start images r m s l) ≡ runOf images r m s l
+  pub even : Fits r m → length s % 2 ≡ 0 → play images s (start images r m s l) ≡ runOf images r m s l
   unfolding runOf
-  even k f h = rw (eq-eqb (length r) 16 (f .whole), f .formed, f .image, eq-eqb (length s % 2) 0 h)
+  even f h = rw (eq-eqb (length r) 16 (f .whole), f .formed, f .image, eq-eqb (length s % 2) 0 h)

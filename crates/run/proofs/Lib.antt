@@ -1,4 +1,3 @@
 pub mod Firsts
-pub mod One
 pub mod Plays
 pub mod Tally

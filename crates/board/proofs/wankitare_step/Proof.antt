@@ -1,50 +1,50 @@
-use native.Mathlib.Omega.{arith}
-use denote.Ref.{now}
-use Rattle.run.proofs.One.{refuses, answers, few}
+use Rattle.step.proofs.Finish.{closes-refused}
+use Rattle.checks.proofs.Fits.{fits}
+use mathlib.Core.Path.{sym, _∙_}
 use borrow.Author.Needs.{needs}
 use Rattle.board.proofs.wankitare_step.Statement.{statement}
 use Rattle.board.proofs.wankitare_step.Tie as tie
 
--- where the step began, by where it has called the run
-abbrev begun : tie.After-run → tie.Start
-begun called = let lent = called .before .before .before .before .before .before in lent .before .before .before
+quiet-requires : tie.Need-quiet-requires
+quiet-requires c κs =
+    let at-enum-told = c .before .before .before .before .before in
+    fits _ _ (sym (at-enum-told .enum-told .given .1) ∙ at-enum-told .before .before .fit .ensures)
 
 returns : tie.Need-returns
 returns c =
-    let back = c .before .before .before .before .before .before in
-    let called = back .before in
-    let a = begun called .args in
-    refuses (now (a .state)) (now (a .image)) (now (a .accesses)) (a .lines) (a .pins) _ _ _ _ _ (called .run .ensures) (c .if1 .taken)
+    let at-quiet = c .before .before .before .before .before .before in
+    let at-if2 = at-quiet .before .before .before .before in
+    rw (at-if2 .if2 .taken, at-if2 .before .if1 .taken) (at-quiet .quiet .ensures)
 
-cast-t22 : tie.Need-cast-t22
-cast-t22 c =
-    let back = c .before .before .before .before .before .before in
-    let called = back .before in
-    let a = begun called .args in
-    omega (arith, few (now (a .state)) (now (a .image)) (now (a .accesses)) (a .lines) (a .pins) _ _ _ _ _ (called .run .ensures))
+step-requires : tie.Need-step-requires
+step-requires c κs =
+    let at-enum-told = c .before .before .before .before in
+    fits _ _ (sym (at-enum-told .enum-told .given .1) ∙ at-enum-told .before .before .fit .ensures)
 
-returns-2 : tie.Need-returns-2
-returns-2 c =
-    let back = c .before .before .before .before .before .before in
-    let called = back .before .before in
-    let a = begun called .args in
-    answers (now (a .state)) (now (a .image)) (now (a .accesses)) (a .lines) (a .pins) _ _ _ _ _
-    (called .run .ensures) (c .before .if1 .left) _ (c .packed .ensures)
+returns-3 : tie.Need-returns-3
+returns-3 c =
+    let at-e = c .before .before in
+    let at-fit = at-e .before .before in
+    rw (c .refusal-word .ensures) (closes-refused _ _ _ _ _ _ (sym (at-e .e .given .1) ∙ at-fit .fit .ensures))
 
 pub wankitare-step-spec : {M : Type 1} → statement M
 wankitare-step-spec =
     tie.close
     (tie.spec
-    (λ c. search needs)
     (λ c κs. search needs)
+    (λ c. search needs)
+    quiet-requires
     (λ c. search needs)
     (λ c. search needs)
     (λ c. search needs)
     returns
+    step-requires
     (λ c. search needs)
-    cast-t22
     (λ c κs. search needs)
     (λ c. search needs)
     (λ c. search needs)
     (λ c. search needs)
-    returns-2)
+    (λ c. search needs)
+    (λ c. search needs)
+    (λ c. search needs)
+    returns-3)

@@ -8,17 +8,18 @@ use Rattle.rules.specs.Bus.{images}
 use Rattle.rules.specs.Run.{start, play}
 use Rattle.laws.proofs.Lists.{rest-back}
 use Rattle.checks.specs.Checks.{Fits}
+use Rattle.step.specs.Parts.{worded}
 use Rattle.run.specs.Plays.{standing}
-use Rattle.run.specs.Words.{worded, tallied}
-use Rattle.run.proofs.Plays.{lent, goes-on, still-fits, still-room, stops, ends}
+use Rattle.run.specs.Words.{tallied}
+use Rattle.run.proofs.Plays.{lent, told-stepped, told-refused, goes-on, still-fits, still-room, stops, ends}
 use borrow.Author.Needs.{needs}
 use Rattle.run.proofs.play.Statement.{statement}
 use Rattle.run.proofs.play.Tie as tie
 
-record Running (state₀ image₀ script accesses₀ state image accesses : List ℕ) (banks i listed : ℕ) : Type 0 where
+record Running (state₀ image₀ script accesses₀ state image accesses : List ℕ) (i listed : ℕ) : Type 0 where
   even : i % 2 ≡ 0
   within : i ≤ length script
-  fits : Fits state image banks
+  fits : Fits state image
   room : 8 * listed ≤ length accesses
   state-size : length state ≡ length state₀
   image-size : length image ≡ length image₀
@@ -26,11 +27,11 @@ record Running (state₀ image₀ script accesses₀ state image accesses : List
   plays : play images script (start images state₀ image₀ script accesses₀) ≡ play images (drop i script) (standing i listed state image accesses)
 
 abbrev Inv-loop : tie.InvT-loop
-Inv-loop state₀ image₀ script accesses₀ tally₀ banks i₀ listed₀ state image accesses tally i listed =
-    Running state₀ image₀ script accesses₀ state image accesses banks i listed
+Inv-loop state₀ image₀ script accesses₀ tally₀ i₀ listed₀ state image accesses tally i listed =
+    Running state₀ image₀ script accesses₀ state image accesses i listed
 
 abbrev μ-loop : tie.MeasureT-loop
-μ-loop state₀ image₀ script accesses₀ tally₀ banks i₀ listed₀ state image accesses tally i listed = length script - i
+μ-loop state₀ image₀ script accesses₀ tally₀ i₀ listed₀ state image accesses tally i listed = length script - i
 
 loop-holds : tie.Need-loop-holds Inv-loop μ-loop
 loop-holds c =
@@ -45,39 +46,57 @@ loop-holds c =
       plays = refl;
     }
 
-step-requires : tie.Need-step-requires Inv-loop μ-loop
-step-requires c κs = c .before .before .before .before .before .before .loop .inv .fits
+turn-requires : tie.Need-turn-requires Inv-loop μ-loop
+turn-requires c κs = c .before .before .before .before .before .before .loop .inv .fits
 
 returns : tie.Need-returns Inv-loop μ-loop
 returns c =
-    let at = c .before .before .before .before .before .before .before .before .before .before .before .before .before .before .before .before .before .before .loop in
-    let a = c .before .before .before .before .before .before .before .before .before .before .before .before .before .before .before .before .before .before .before .before .before .before .before .args in
-    let e = lent (now (a .script)) (at .state) (at .image) (at .accesses) (at .i) (at .listed) _ _ _ _ (rw (c .before .before .before .e .given .1) at (c .before .before .before .before .before .before .before .before .before .before .before .step .ensures)) in
-    let ends = stops (now (a .script)) (at .state) (at .image) (at .accesses) (at .i) (at .listed) _ _ _ _ e (omega (arith, at .inv .even, c .before .before .before .before .before .before .before .before .before .before .before .before .before .before .before .before .before .before .before .before .before .before .before .pre .1)) in
-    rw (c .stopped .ensures, rest-back (8 * at .listed) (at .accesses) _) (ap (worded tallied) (ends ∙ sym (at .inv .plays)))
+    let at-if1 = c .before .before in
+    let to-turn = at-if1 .before .before .before .before .before .before in
+    let at-turn = to-turn .before in
+    let to-loop = at-turn .before .before .before .before .before .before in
+    let at-loop = to-loop .before in
+    let start = at-loop .before .before .before .before .before in
+    let at = at-loop .loop in
+    let script = now (start .args .script) in
+    let e = lent script (at .state) (at .image) (at .accesses) (at .i) (at .listed) _ _ _ _ (at-turn .turn .ensures) in
+    let d = told-refused _ _ _ _ _ e (at-if1 .if1 .taken) in
+    let least : at .i + 1 < length script = omega (arith, at .inv .even, start .pre .1) in
+    let stop = stops script (at .state) (at .image) (at .accesses) (at .i) (at .listed) (d .0) _ _ _ (d .2) least in
+    rw (d .1, c .tell .ensures, rest-back (8 * at .listed) (at .accesses) _) (ap (worded tallied) (stop ∙ sym (at .inv .plays)))
 
 loop-again : tie.Need-loop-again Inv-loop μ-loop
 loop-again c =
-    let at = c .before .before .before .before .before .before .before .before .before .before .before .before .before .before .before .before .loop in
-    let a = c .before .before .before .before .before .before .before .before .before .before .before .before .before .before .before .before .before .before .before .before .before .args in
-    let e = lent (now (a .script)) (at .state) (at .image) (at .accesses) (at .i) (at .listed) _ _ _ _ (rw (c .before .n .given .1) at (c .before .before .before .before .before .before .before .before .before .step .ensures)) in
-    let h : at .i + 1 < length (now (a .script)) = omega (arith, at .inv .even, c .before .before .before .before .before .before .before .before .before .before .before .before .before .before .before .before .before .before .before .before .before .pre .1) in
+    let to-turn = c .before .before .before .before .before .before in
+    let at-turn = to-turn .before in
+    let to-loop = at-turn .before .before .before .before .before .before in
+    let at-loop = to-loop .before in
+    let start = at-loop .before .before .before .before .before in
+    let at = at-loop .loop in
+    let script = now (start .args .script) in
+    let e = told-stepped _ _ _ _ _ (lent script (at .state) (at .image) (at .accesses) (at .i) (at .listed) _ _ _ _ (at-turn .turn .ensures)) (c .if1 .left) in
+    let h : at .i + 1 < length script = omega (arith, at .inv .even, start .pre .1) in
     record {
       even = omega (arith, at .inv .even);
       within = omega (arith, h);
-      fits = still-fits (now (a .script)) (at .state) (at .image) (at .accesses) (at .i) (at .listed) _ _ _ _ e _ (at .inv .fits) (search needs);
-      room = omega (arith, still-room (now (a .script)) (at .state) (at .image) (at .accesses) (at .i) (at .listed) _ _ _ _ e (at .inv .room));
+      fits = still-fits script (at .state) (at .image) (at .accesses) (at .i) (at .listed) _ _ _ _ e (at .inv .fits) (search needs);
+      room = omega (arith, still-room script (at .state) (at .image) (at .accesses) (at .i) (at .listed) _ _ _ _ e (at .inv .room));
       state-size = search needs;
       image-size = search needs;
       accesses-size = search needs;
-      plays = at .inv .plays ∙ (rw (rest-back (8 * at .listed) (at .accesses) _) (goes-on (now (a .script)) (at .state) (at .image) (at .accesses) (at .i) (at .listed) _ _ _ _ e h));
+      plays =
+          at .inv .plays
+          ∙ (rw (rest-back (8 * at .listed) (at .accesses) _)
+          (goes-on script (at .state) (at .image) (at .accesses) (at .i) (at .listed) _ _ _ _ e h));
     }
 
 returns-2 : tie.Need-returns-2 Inv-loop μ-loop
 returns-2 c =
-    let at = c .before .before .before .loop in
-    rw (c .tell .ensures)
-    (ap (worded tallied) (ends (now (c .before .before .before .before .before .before .before .before .args .script)) (at .state) (at .image) (at .accesses) (at .i) (at .listed) (c .before .before .loop-test .left) ∙ sym (at .inv .plays)))
+    let at-loop = c .before .before .before in
+    let start = at-loop .before .before .before .before .before in
+    let at = at-loop .loop in
+    let end = ends (now (start .args .script)) (at .state) (at .image) (at .accesses) (at .i) (at .listed) (c .before .before .loop-test .left) in
+    rw (c .tell2 .ensures) (ap (worded tallied) (end ∙ sym (at .inv .plays)))
 
 pub play-spec : {M : Type 1} → statement M
 play-spec =
@@ -93,16 +112,13 @@ play-spec =
     (λ c. search needs)
     (λ c. search needs)
     (λ c. search needs)
-    step-requires
-    (λ c. search needs)
-    (λ c. search needs)
-    (λ c. search needs)
-    (λ c. search needs)
+    turn-requires
     (λ c κs. search needs)
     (λ c. search needs)
     (λ c. search needs)
     (λ c. search needs)
     returns
+    (λ c. search needs)
     (λ c. search needs)
     (λ c. search needs)
     loop-again

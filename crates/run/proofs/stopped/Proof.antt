@@ -1,9 +1,0 @@
-use borrow.Author.Needs.{needs}
-use Rattle.run.proofs.stopped.Statement.{statement}
-use Rattle.run.proofs.stopped.Tie as tie
-
-returns : tie.Need-returns
-returns c = λ j. (c .refusal-word .ensures j, c .before .tell .ensures j)
-
-pub stopped-spec : {M : Type 1} → statement M
-stopped-spec = tie.close (tie.spec (λ c κs. search needs) (λ c κs. search needs) returns)
