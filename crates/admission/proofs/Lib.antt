@@ -3,4 +3,4 @@ pub mod Forms
 pub mod Judged
 pub mod Records
 pub mod Rooms
-pub mod Settled
+pub mod Sizes

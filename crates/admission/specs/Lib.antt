@@ -1,3 +1,2 @@
 pub mod Maps
-pub mod Rules
-pub mod Settled
+pub mod Sizes

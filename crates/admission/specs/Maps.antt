@@ -6,16 +6,6 @@ use mathlib.Core.List.{List}
 use lib.Dec.{leb, eqb}
 use Rattle.rules.specs.Basics.{at}
 use Rattle.admission_rules.specs.Admission.{main, handler, markAt, marksIn, marked, isMark, ascends}
-use Rattle.admission.specs.declared.marks.Mark.{Mark}
-
-abbrev pub markOf : List ℕ → ℕ → Mark
-markOf map i =
-    record {
-      address = markAt map i .address;
-      kind = markAt map i .kind;
-      height = markAt map i .height;
-      need = markAt map i .need;
-    }
 
 -- the tests of record i's form, together
 abbrev pub shaped : List ℕ → ℕ → Bool

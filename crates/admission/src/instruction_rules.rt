@@ -1,28 +1,60 @@
 // The rules of one instruction at a record of the map.
 
 use crate::marks;
-use crate::marks::Mark;
+use admission_rules::Mark;
+use admission_rules::Rules;
+use admission_rules::Successor;
+use rules::Instruction;
+use rules::Mode;
 use rules::Refusal;
+use rules::Stacking;
 ghost use Prim.Native.Nat.{ℕ};
 ghost use mathlib.Core.Path.{_≡_};
+ghost use lib.Dec.{leb};
 ghost use Rattle.rules.specs.declared.Instruction.the-variants.{AtStack};
-ghost use Rattle.rules.specs.Basics.{address};
-ghost use Rattle.table.specs.Numbers.{modeOf, stackingOf, singleOf, made};
-ghost use Rattle.admission.specs.Rules.{goesTo, goesOn, one, rulesUnless, outside, stored, isAtZero, pulled, calls, rulesFor};
+ghost use Rattle.rules.specs.declared.Refusal.the-variants.{StoreAddress, Stack};
+ghost use Rattle.rules.specs.Basics.{if_then_else_, address};
+ghost use Rattle.admission_rules.specs.declared.Rules.the-variants.{Broken, Leads};
+ghost use Rattle.admission_rules.specs.Admission.{one, outside, stored, goesTo, goesOn, goesUp, goesDown, calls, isAtZero, rulesOf};
+ghost use Rattle.admission.specs.Sizes.{modeSize, sizeIn};
 
-// What is asked of a successor: to be marked with this kind and height, and a need that with `more` is at most `limit`.
-pub(crate) struct Successor {
-    pub address: u16,
-    pub kind: u8,
-    pub height: u16,
-    pub more: u16,
-    pub limit: u16,
+fn mode_size(mode: Mode) -> u16
+    ensures { λ r. ⌜ r ≡ modeSize mode ⌝ }
+{
+    match mode {
+        Mode::IndirectX(z) => 2,
+        Mode::Zero(z) => 2,
+        Mode::Immediate(v) => 2,
+        Mode::Absolute(low, high) => 3,
+        Mode::IndirectY(z) => 2,
+        Mode::ZeroX(z) => 2,
+        Mode::AbsoluteY(low, high) => 3,
+        Mode::AbsoluteX(low, high) => 3,
+        Mode::ZeroY(z) => 2,
+        Mode::IndirectBankY(z) => 2,
+    }
 }
 
-// What a record's own rules (13 to 15) come to: one is broken, or so many successors are asked for (16), the first and perhaps a second.
-pub(crate) enum Rules {
-    Broken(Refusal),
-    Leads(u8, Successor, Successor),
+// How many bytes an instruction is long.
+pub(crate) fn size_of(instruction: Instruction) -> u16
+    ensures { λ r. ⌜ r ≡ sizeIn instruction ⌝ }
+{
+    match instruction {
+        Instruction::Read(o, mode) => mode_size(mode),
+        Instruction::Store(o, mode) => mode_size(mode),
+        Instruction::Change(o, mode) => mode_size(mode),
+        Instruction::Accumulator(o) => 1,
+        Instruction::Implied(o) => 1,
+        Instruction::AtStack(o) => 1,
+        Instruction::Branch(t, o) => 2,
+        Instruction::Jump(low, high) => 3,
+        Instruction::JumpIndirect(low, high) => 3,
+        Instruction::Jsr(low) => 3,
+        Instruction::Brk => 1,
+        Instruction::Txs => 1,
+        Instruction::Cli => 1,
+        Instruction::Undefined => 1,
+    }
 }
 
 // "Each successor .. is marked with the same kind"
@@ -45,70 +77,11 @@ fn goes_on(m: Mark, address: u16) -> Successor
     goes_to(m, address, m.height as u16, 0, m.need as u16)
 }
 
-// One successor; the second is not looked at.
-fn one(s: Successor) -> Rules
-    ensures { λ r. ⌜ r ≡ one s ⌝ }
+// "PHA, PHP height one more, successor's need + 1 at most need"
+fn goes_up(m: Mark, address: u16) -> Successor
+    ensures { λ r. ⌜ r ≡ goesUp m address ⌝ }
 {
-    Rules::Leads(1, s, s)
-}
-
-// The rules r after a rule that holds or not.
-fn unless(holds: bool, e: Refusal, r: Rules) -> Rules
-    ensures { λ q. ⌜ q ≡ rulesUnless holds e r ⌝ }
-{
-    if holds { r } else { Rules::Broken(e) }
-}
-
-// "not .. to 01FF"
-fn outside(least: u16, a: u16) -> bool
-    ensures { λ r. ⌜ r ≡ outside least a ⌝ }
-{
-    if a < least {
-        return true;
-    }
-    a > 0x01FF
-}
-
-// 14: "Stores, shifts, INC, DEC: absolute address not 0100 to 01FF; a,X or a,Y base not 0001 to 01FF"; and 13: "not .. 81, 91". The mode is
-// that of the table's entry, in the order of rules::Mode.
-fn stored(mode: u8, low: u8, high: u8, i: u16, r: Rules) -> Rules
-    ensures { λ q. ⌜ q ≡ stored (modeOf mode low high) i r ⌝ }
-{
-    let a = bytes::join(low, high);
-    match mode {
-        // #, z, z,X, z,Y
-        0 => r,
-        1 => r,
-        2 => r,
-        3 => r,
-        // a; a,X; a,Y
-        4 => unless(outside(0x0100, a), Refusal::StoreAddress(i), r),
-        5 => unless(outside(0x0001, a), Refusal::StoreAddress(i), r),
-        6 => unless(outside(0x0001, a), Refusal::StoreAddress(i), r),
-        // (z,X), (z),Y
-        7 => Rules::Broken(Refusal::Place(i)),
-        8 => Rules::Broken(Refusal::Place(i)),
-        _ => Rules::Broken(Refusal::Place(i)),
-    }
-}
-
-fn is_at_zero(m: Mark, kind: u8) -> bool
-    ensures { λ r. ⌜ r ≡ isAtZero m kind ⌝ }
-{
-    if m.kind != kind {
-        return false;
-    }
-    m.height == 0
-}
-
-// "PLA: height at least 1"; "PLA height one less, successor's need at most need + 1"
-fn pulled(m: Mark, next: u16, i: u16) -> Rules
-    ensures { λ r. ⌜ r ≡ pulled m next i ⌝ }
-{
-    if m.height == 0 {
-        return Rules::Broken(Refusal::Stack(i));
-    }
-    one(goes_to(m, next, m.height as u16 - 1, 0, m.need as u16 + 1))
+    goes_to(m, address, m.height as u16 + 1, 1, m.need as u16)
 }
 
 // "JSR's target is also a routine of height 0, its need + 2 at most this need."
@@ -124,70 +97,123 @@ fn calls(m: Mark, routine: u16) -> Successor
     }
 }
 
-// The rules of what is done at the stack. n is the number of its entry from PHP on.
-fn rules_for_stacking(n: u8, m: Mark, next: u16, i: u16) -> Rules
-    ensures { λ r. ⌜ ((call : ℕ) → r ≡ rulesFor m next call i (AtStack (stackingOf n))) ⌝ }
+// One successor; the second is not looked at.
+fn one(s: Successor) -> Rules
+    ensures { λ r. ⌜ r ≡ one s ⌝ }
 {
-    let last = goes_on(m, next);
-    let up = goes_to(m, next, m.height as u16 + 1, 1, m.need as u16);
-    match n {
-        // PHP, PLP, PHA, PLA
-        0 => one(up),
-        1 => Rules::Broken(Refusal::Place(i)),
-        2 => one(up),
-        3 => pulled(m, next, i),
-        // RTS, RTI
-        4 => unless(
-            is_at_zero(m, marks::ROUTINE),
-            Refusal::Stack(i),
-            Rules::Leads(0, last, last),
-        ),
-        _ => unless(
-            is_at_zero(m, marks::HANDLER),
-            Refusal::Stack(i),
-            Rules::Leads(0, last, last),
-        ),
+    Rules::Leads(1, s, s)
+}
+
+// The rules r after a rule that holds or not.
+fn unless(holds: bool, e: Refusal, r: Rules) -> Rules
+    ensures { λ q. ⌜ q ≡ (if holds then r else Broken e) ⌝ }
+{
+    if holds { r } else { Rules::Broken(e) }
+}
+
+// "not .. to 01FF"
+fn outside(least: u16, a: u16) -> bool
+    ensures { λ r. ⌜ r ≡ outside least a ⌝ }
+{
+    if a < least {
+        return true;
+    }
+    a > 0x01FF
+}
+
+// 14, for an address of these two bytes.
+fn unless_inside(least: u16, low: u8, high: u8, i: u16, r: Rules) -> Rules
+    ensures { λ q. ⌜ q ≡ (if outside least (address low high) then r else Broken (StoreAddress i)) ⌝ }
+{
+    unless(
+        outside(least, bytes::join(low, high)),
+        Refusal::StoreAddress(i),
+        r,
+    )
+}
+
+// 14: "Stores, shifts, INC, DEC: absolute address not 0100 to 01FF; a,X or a,Y base not 0001 to 01FF"; and 13: "not .. 81, 91".
+fn stored(mode: Mode, i: u16, r: Rules) -> Rules
+    ensures { λ q. ⌜ q ≡ stored i mode r ⌝ }
+{
+    match mode {
+        Mode::IndirectX(z) => Rules::Broken(Refusal::Place(i)),
+        Mode::Zero(z) => r,
+        Mode::Immediate(v) => r,
+        Mode::Absolute(low, high) => unless_inside(0x0100, low, high, i, r),
+        Mode::IndirectY(z) => Rules::Broken(Refusal::Place(i)),
+        Mode::ZeroX(z) => r,
+        Mode::AbsoluteY(low, high) => unless_inside(0x0001, low, high, i, r),
+        Mode::AbsoluteX(low, high) => unless_inside(0x0001, low, high, i, r),
+        Mode::ZeroY(z) => r,
+        Mode::IndirectBankY(z) => Rules::Broken(Refusal::Place(i)),
     }
 }
 
-// The rules of what has neither a mode nor a condition and is done neither inside nor at the stack: each has its own. n is the number of
-// its entry from JMP on.
-fn rules_for_single(n: u8, low: u8, high: u8, m: Mark, next: u16, i: u16) -> Rules
-    ensures { λ r. ⌜ r ≡ rulesFor m next (address low high) i (singleOf n low high) ⌝ }
+fn is_at_zero(m: Mark, kind: u8) -> bool
+    ensures { λ r. ⌜ r ≡ isAtZero m kind ⌝ }
 {
-    let a = bytes::join(low, high);
-    let on = goes_on(m, next);
-    match n {
-        // JMP a, JMP (a), JSR, BRK
-        0 => one(goes_on(m, a)),
-        1 => Rules::Broken(Refusal::Place(i)),
-        2 => Rules::Leads(2, on, calls(m, a)),
-        3 => Rules::Broken(Refusal::Place(i)),
-        // TXS, CLI
-        4 => unless(is_at_zero(m, marks::MAIN), Refusal::Stack(i), one(on)),
-        _ => unless(m.kind == marks::MAIN, Refusal::Stack(i), one(on)),
+    if m.kind != kind {
+        return false;
+    }
+    m.height == 0
+}
+
+// "PLA: height at least 1"; "PLA height one less, successor's need at most need + 1"
+fn pulled(m: Mark, next: u16, i: u16) -> Rules
+    ensures { λ r. ⌜ r ≡ (if leb 1 (m .height) then one (goesDown m next) else Broken (Stack i)) ⌝ }
+{
+    if m.height == 0 {
+        return Rules::Broken(Refusal::Stack(i));
+    }
+    one(goes_to(m, next, m.height as u16 - 1, 0, m.need as u16 + 1))
+}
+
+// "none for RTS, RTI"
+fn returned(m: Mark, kind: u8, next: u16, i: u16) -> Rules
+    ensures { λ r. ⌜ r ≡ (if isAtZero m kind then Leads 0 (goesOn m next) (goesOn m next) else Broken (Stack i)) ⌝ }
+{
+    let unused = goes_on(m, next);
+    unless(
+        is_at_zero(m, kind),
+        Refusal::Stack(i),
+        Rules::Leads(0, unused, unused),
+    )
+}
+
+// The rules of what is done at the stack.
+fn rules_for_stacking(o: Stacking, m: Mark, next: u16, i: u16) -> Rules
+    ensures { λ r. ⌜ ((high : ℕ) → r ≡ rulesOf m i next high (AtStack o)) ⌝ }
+{
+    match o {
+        Stacking::Php => one(goes_up(m, next)),
+        Stacking::Plp => Rules::Broken(Refusal::Place(i)),
+        Stacking::Pha => one(goes_up(m, next)),
+        Stacking::Pla => pulled(m, next, i),
+        Stacking::Rti => returned(m, marks::HANDLER, next, i),
+        Stacking::Rts => returned(m, marks::ROUTINE, next, i),
     }
 }
 
-// The rules of an instruction at a record, by its entry in the table; `next` is the next address.
-pub(crate) fn rules_for(entry: u8, low: u8, high: u8, m: Mark, next: u16, i: u16) -> Rules
-    ensures { λ r. ⌜ r ≡ rulesFor m next (address low high) i (made entry low high) ⌝ }
+// The rules of an instruction at a record. `next` is the next address, `high` the second byte after the opcode.
+pub(crate) fn rules_for(instruction: Instruction, high: u8, m: Mark, next: u16, i: u16) -> Rules
+    ensures { λ r. ⌜ r ≡ rulesOf m i next high instruction ⌝ }
 {
     let on = goes_on(m, next);
-    if entry < table::ASL_A {
-        if entry % table::MODE < table::STA {
-            return one(on);
-        }
-        return stored(entry / table::MODE, low, high, i, one(on));
+    match instruction {
+        Instruction::Read(o, mode) => one(on),
+        Instruction::Store(o, mode) => stored(mode, i, one(on)),
+        Instruction::Change(o, mode) => stored(mode, i, one(on)),
+        Instruction::Accumulator(o) => one(on),
+        Instruction::Implied(o) => one(on),
+        Instruction::AtStack(o) => rules_for_stacking(o, m, next, i),
+        Instruction::Branch(t, o) => Rules::Leads(2, on, goes_on(m, bytes::target(next, o))),
+        Instruction::Jump(low, second) => one(goes_on(m, bytes::join(low, second))),
+        Instruction::JumpIndirect(low, second) => Rules::Broken(Refusal::Place(i)),
+        Instruction::Jsr(low) => Rules::Leads(2, on, calls(m, bytes::join(low, high))),
+        Instruction::Brk => Rules::Broken(Refusal::Place(i)),
+        Instruction::Txs => unless(is_at_zero(m, marks::MAIN), Refusal::Stack(i), one(on)),
+        Instruction::Cli => unless(m.kind == marks::MAIN, Refusal::Stack(i), one(on)),
+        Instruction::Undefined => Rules::Broken(Refusal::Place(i)),
     }
-    if entry < table::PHP {
-        return one(on);
-    }
-    if entry < table::BPL {
-        return rules_for_stacking(entry - table::PHP, m, next, i);
-    }
-    if entry < table::JMP {
-        return Rules::Leads(2, on, goes_on(m, bytes::target(next, low)));
-    }
-    rules_for_single(entry - table::JMP, low, high, m, next, i)
 }

@@ -3,25 +3,20 @@
 mod instruction_rules;
 mod marks;
 
-use instruction_rules::Rules;
-use instruction_rules::Successor;
+use admission_rules::Rules;
+use admission_rules::Successor;
 use rules::Refusal;
 use rules::Verdict;
 ghost use Prim.Native.Nat.{ℕ, _≤_, _<_};
 ghost use mathlib.Core.Path.{_≡_};
-ghost use lib.Dec.{eqb};
 ghost use lib.ListN.{length};
-ghost use Rattle.rules.specs.declared.Verdict.{Verdict};
 ghost use Rattle.rules.specs.declared.Verdict.the-variants.{Accepted, Barred};
-ghost use Rattle.rules.specs.Basics.{if_then_else_, at, address, sum16};
-ghost use Rattle.rules.specs.Opcodes.{decode};
+ghost use Rattle.rules.specs.Basics.{at, address, sum16};
 ghost use Rattle.rules.specs.Answers.{tested};
 ghost use Rattle.rules.specs.Bus.{images};
-ghost use Rattle.admission_rules.specs.Admission.{marksIn, inputFits, vectorsHold, ofRecords, ruleTests, admit};
+ghost use Rattle.admission_rules.specs.Admission.{marksIn, inputFits, vectorsHold, ofRecords, reached, rulesAt, ruleTests, admit};
 ghost use Rattle.admission_rules.specs.Safety.{Safe, PlaysOut};
-ghost use Rattle.table.specs.Numbers.{numberOf, entries, fetched};
 ghost use Rattle.admission.specs.Maps.{Ascending};
-ghost use Rattle.admission.specs.Settled.{reached, settled};
 
 // Whether a successor is marked as is asked.
 fn is_reached(map: &[u8], s: Successor) -> bool
@@ -56,28 +51,10 @@ fn vectors_hold(image: &[u8], map: &[u8]) -> bool
     main + handler + 3 <= 256
 }
 
-// How many bytes an instruction is long. JSR's high operand is fetched by the instruction itself.
-fn size_of(entry: u8) -> u16
-    ensures { λ r. ⌜ r ≡ (if eqb entry 246 then 3 else fetched entry) ⌝ }
-{
-    if entry == table::JSR {
-        return 3;
-    }
-    table::fetched(entry)
-}
-
-// The table's entry of the opcode at p.
-fn entry_at(image: &[u8], opcodes: &[u8], p: u16) -> u8
-    requires { ⌜ (length (now image) ≡ 65536) × (now opcodes ≡ entries) ⌝ }
-    ensures { λ r. ⌜ (r ≡ numberOf (decode (at (now (image .entry)) p))) × (at (now (image .entry)) p < 256) ⌝ }
-{
-    opcodes[image[p as usize] as usize]
-}
-
 // Record i's own rules. 13: "place, undefined or barred opcode"; the others are the instruction's.
-fn rules_at(image: &[u8], opcodes: &[u8], c: u8, map: &[u8], i: usize) -> Rules
-    requires { ⌜ ((length (now image) ≡ 65536) × (now opcodes ≡ entries)) × (i < marksIn (now map)) × (i < 65536) ⌝ }
-    ensures { λ r. ⌜ ((v : Verdict) → tested (ruleTests images (now (image .entry)) c (now (map .entry)) i) Barred v ≡ settled (now (map .entry)) i r v) ⌝ }
+fn rules_at(image: &[u8], c: u8, map: &[u8], i: usize) -> Rules
+    requires { ⌜ (length (now image) ≡ 65536) × (i < marksIn (now map)) × (i < 65536) ⌝ }
+    ensures { λ r. ⌜ r ≡ rulesAt images (now (image .entry)) c (now (map .entry)) i ⌝ }
 {
     let index = i as u16;
     let m = marks::mark_at(map, i);
@@ -85,37 +62,28 @@ fn rules_at(image: &[u8], opcodes: &[u8], c: u8, map: &[u8], i: usize) -> Rules
     if a / 256 < 256 - c as u16 {
         return Rules::Broken(Refusal::Place(index));
     }
-    let entry = entry_at(image, opcodes, a);
-    let size = size_of(entry);
+    let low = byte_after(image, a, 1);
+    let high = byte_after(image, a, 2);
+    let instruction = decode::decode(image[a as usize], low, high);
+    let size = instruction_rules::size_of(instruction);
     if a as usize + size as usize > 65536 {
         return Rules::Broken(Refusal::Place(index));
     }
-    if entry == table::UNDEFINED {
-        return Rules::Broken(Refusal::Place(index));
-    }
-    let low = byte_after(image, a, 1);
-    let high = byte_after(image, a, 2);
-    instruction_rules::rules_for(
-        entry,
-        low,
-        high,
-        m,
-        std::num::wrapping_add_u16(a, size),
-        index,
-    )
+    let next = std::num::wrapping_add_u16(a, size);
+    instruction_rules::rules_for(instruction, high, m, next, index)
 }
 
 // 13 to 16: "the lowest record, and at it the lowest number". The loop over the records and the one over a record's successors are both left
 // by the label at the first broken rule.
-fn judge(image: &[u8], opcodes: &[u8], c: u8, map: &[u8]) -> Verdict
-    requires { ⌜ ((length (now image) ≡ 65536) × (length (now map) ≤ 65536)) × Ascending (now map) × (now opcodes ≡ entries) ⌝ }
+fn judge(image: &[u8], c: u8, map: &[u8]) -> Verdict
+    requires { ⌜ ((length (now image) ≡ 65536) × (length (now map) ≤ 65536)) × Ascending (now map) ⌝ }
     ensures { λ r. ⌜ r ≡ tested (ofRecords (ruleTests images (now (image .entry)) c (now (map .entry))) 0 (marksIn (now (map .entry)))) Barred Accepted ⌝ }
 {
     let n = map.len() / 8;
     let mut i: usize = 0;
     let mut verdict = Verdict::Accepted;
     'records: while i < n {
-        match rules_at(image, opcodes, c, map, i) {
+        match rules_at(image, c, map, i) {
             Rules::Broken(e) => {
                 verdict = Verdict::Barred(e);
                 break 'records;
@@ -175,8 +143,7 @@ fn verdict(image: &[u8], c: u8, map: &[u8]) -> Verdict
     if !vectors_hold(image, map) {
         return Verdict::Barred(Refusal::Vectors);
     }
-    let opcodes = table::entries();
-    judge(image, &opcodes, c, map)
+    judge(image, c, map)
 }
 
 // Demand 3: it "accepts exactly by the map's rules", and what it accepts is safe on every sequence of steps and in every run.

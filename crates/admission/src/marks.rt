@@ -1,11 +1,10 @@
 // The records of a map: their form, and the search for one.
 
+use admission_rules::Mark;
 ghost use Prim.Native.Nat.{_<_};
 ghost use mathlib.Core.Path.{_≡_};
-ghost use mathlib.Core.Bool.{_&&_};
-ghost use lib.Dec.{eqb};
-ghost use Rattle.admission_rules.specs.Admission.{marksIn, ascends};
-ghost use Rattle.admission.specs.Maps.{markOf, formed, Formed, Ascending, Found, NeedAt};
+ghost use Rattle.admission_rules.specs.Admission.{markAt, marksIn, isMark, ascends};
+ghost use Rattle.admission.specs.Maps.{formed, Formed, Ascending, Found, NeedAt};
 
 // "kind (1 main, 2 routine, 3 handler)"
 pub(crate) const MAIN: u8 = 1;
@@ -17,17 +16,9 @@ pub(crate) const HANDLER: u8 = 3;
 // More than any need or room.
 const NONE: usize = 65536;
 
-// A record of the map.
-pub(crate) struct Mark {
-    pub address: u16,
-    pub kind: u8,
-    pub height: u8,
-    pub need: u8,
-}
-
 pub(crate) fn mark_at(map: &[u8], i: usize) -> Mark
     requires { ⌜ i < marksIn (now map) ⌝ }
-    ensures { λ r. ⌜ r ≡ markOf (now (map .entry)) i ⌝ }
+    ensures { λ r. ⌜ r ≡ markAt (now (map .entry)) i ⌝ }
 {
     let k = 8 * i;
     Mark {
@@ -111,7 +102,7 @@ fn find(map: &[u8], address: u16) -> usize
 }
 
 fn is_mark(m: Mark, address: u16, kind: u8, height: u16) -> bool
-    ensures { λ r. ⌜ r ≡ (eqb (m .address) address && eqb (m .kind) kind && eqb (m .height) height) ⌝ }
+    ensures { λ r. ⌜ r ≡ isMark address kind height m ⌝ }
 {
     if m.address != address {
         return false;

@@ -16,15 +16,15 @@ use Rattle.rules.specs.Flags.{byteOf}
 use Rattle.rules.specs.Opcodes.{Entry, undefined, alone, byte, word, late, sizeOf, isDefined, instructionOf, decode}
 use Rattle.rules.specs.Operations.{stack, down, withPc, enter, perform, instruction}
 use Rattle.rules.specs.Interrupts.{resOf, nmiOf, irqOf, Event, res, nmi, irq, execute, eventOf, interrupt, reset, cyclesOf}
-use Rattle.rules.specs.Bus.{isProtected, images}
-use Rattle.admission_rules.specs.Admission.{markAt, marksIn, ruleTests, rulesOf}
+use Rattle.rules.specs.Bus.{isProtected}
+use Rattle.admission_rules.specs.Admission.{markAt, marksIn, testsOf, rulesOf, rulesAt}
 use Rattle.admission_rules.specs.Safety.{Stacked, Effect, none, clears, pushes, effectOf, effectAt, Unaltered}
-use Rattle.laws.proofs.Tests.{Hold}
+use Rattle.laws.proofs.Tests.{Hold, and-left, and-right}
 use Rattle.laws.proofs.Entries.{fetchedBy}
 use Rattle.admission_rules.proofs.Stacks.{lower, Stands, starts, altered, interrupts}
 use Rattle.admission_rules.proofs.Marks.{Admitted}
 use Rattle.admission_rules.proofs.Ends.{End, ends}
-use Rattle.admission_rules.proofs.Places.{Bytes}
+use Rattle.admission_rules.proofs.Places.{Bytes, unbroken}
 use Rattle.admission_rules.proofs.Plain.{p-byte}
 use Rattle.admission_rules.proofs.Shapes.{gives, decode-gives, decode-late, on-one, instruction-ends}
 use Rattle.admission_rules.proofs.Performs.{Image, Ready, Done, stack-open, stack-page, pushed-image, n, performs, does-jsr}
@@ -63,6 +63,10 @@ module _ (m₀ : List ℕ) (c : ℕ) (map : List ℕ) (ad : Admitted m₀ c map)
     abbrev a : ℕ
     a = markAt map (s .i) .address
 
+    -- the rules of its record hold of the instruction i
+    abbrev Ruled : Instruction → Type 0
+    Ruled i = Hold (testsOf map (s .i) (rulesOf (markAt map (s .i)) (s .i) (n m₀ c map ad u m k g) (at m₀ (sum16 a 2)) i))
+
     pub record Executes : Type 0 where
       pub defined : isDefined (decode (at m (u .pc))) ≡ true
       pub done : Done m₀ c map ad (effectHere u m) (u .s) k (ends c (instruction u) m)
@@ -92,7 +96,7 @@ module _ (m₀ : List ℕ) (c : ℕ) (map : List ℕ) (ad : Admitted m₀ c map)
     -- of an instruction that was fetched whole, with the operand x
     whole : (e : Entry) → isProtected c a ≡ true → decode (at m₀ a) ≡ e → isDefined e ≡ true → fetchedBy e ≡ sizeOf e →
         (wide : Bool) → gives wide low high (instructionOf e low high) ≡ (low, high) →
-        Hold (rulesOf images m₀ c map (s .i) (instructionOf e low high)) → Executes
+        Ruled (instructionOf e low high) → Executes
     whole e h d def size wide takes t =
         let i = instructionOf e low high in
         let there = next-is e d ∙ ap (sum16 (u .pc)) (sym size) in
@@ -100,12 +104,24 @@ module _ (m₀ : List ℕ) (c : ℕ) (map : List ℕ) (ad : Admitted m₀ c map)
         (subst (λ (p : ℕ). Done m₀ c map ad (effectOf i) (u .s) k (ends c (perform i (withPc p u)) m)) there
         (performs m₀ c map ad u m k g i wide low high takes (g .image .bytes (sum16 (u .pc) 1)) (g .image .bytes (sum16 (u .pc) 2)) t))
 
+    -- "the whole instruction lies in protected pages", and what is at PC keeps its rules
+    record Kept : Type 0 where
+      protected : isProtected c a ≡ true
+      fits : leb (a + sizeOf (decode (at m₀ a))) 65536 ≡ true
+      ruled : Ruled (instructionOf (decode (at m₀ a)) (at m₀ (sum16 a 1)) (at m₀ (sum16 a 2)))
+
+    kept : Kept
+    unfolding rulesAt
+    kept =
+        let t = unbroken map (s .i) (isProtected c a && leb (a + sizeOf (decode (at m₀ a))) 65536) _ _ (ad .rules (s .i) (s .goes .within)) in
+        record { protected = and-left _ _ (t .0); fits = and-right (isProtected c a) _ (t .0); ruled = t .1 }
+
     pub executes : Executes
-    unfolding ruleTests rulesOf
-    executes = let t = ad .rules (s .i) (s .goes .within) in go (decode (at m₀ a)) refl (t .0) (t .1 .0) (t .1 .1)
+    unfolding rulesOf
+    executes = go (decode (at m₀ a)) refl (kept .protected) (kept .fits) (kept .ruled)
       where
         go : (e : Entry) → decode (at m₀ a) ≡ e → isProtected c a ≡ true → leb (a + sizeOf e) 65536 ≡ true →
-            Hold (rulesOf images m₀ c map (s .i) (instructionOf e (at m₀ (sum16 a 1)) (at m₀ (sum16 a 2)))) → Executes
+            Ruled (instructionOf e (at m₀ (sum16 a 1)) (at m₀ (sum16 a 2))) → Executes
         go undefined d h l t = absurd (false≢true (t .0))
         go (alone i) d h l t = whole (alone i) h d refl refl false (rw d at (decode-gives (at m₀ a) low high)) t
         go (byte f) d h l t =
@@ -121,16 +137,14 @@ module _ (m₀ : List ℕ) (c : ℕ) (map : List ℕ) (ad : Admitted m₀ c map)
             let p = sum16 (u .pc) 2 in
             let past = on-one (u .pc) 2 ∙ sym (next-is (late f) d) in
             let code = ap (λ (q : ℕ). isProtected c (sum16 q 2)) (sym (s .address)) ∙ protected-on c a 2 h (omega (arith, leb-true (a + 3) 65536 l)) in
-            let second = ap (λ (q : ℕ). at m₀ (sum16 q 2)) (sym (s .address)) ∙ ap (at m₀) (sym (on-one a 1)) in
             finish (late f) (entry-here (late f) h d) refl
             (subst (λ (i : Instruction). Done m₀ c map ad (effectOf i) (u .s) k (ends c (perform i (withPc p u)) m)) (sym call)
-            (does-jsr m₀ c map ad u m k g low p (omega arith) past code (rw (same, second))
-            (subst (λ (i : Instruction). Hold (rulesOf images m₀ c map (s .i) i)) (ap f (sym same) ∙ call) t)))
+            (does-jsr m₀ c map ad u m k g low p (omega arith) past code (ap (λ (q : ℕ). at m₀ (sum16 q 2)) (sym (s .address)))
+            (subst Ruled (ap f (sym same) ∙ call) t)))
 
     pc-16 : u .pc < 65536
-    unfolding ruleTests
     pc-16 =
-        let l = leb-true (a + sizeOf (decode (at m₀ a))) 65536 (ad .rules (s .i) (s .goes .within) .1 .0) in
+        let l = leb-true (a + sizeOf (decode (at m₀ a))) 65536 (kept .fits) in
         omega (arith, s .address, size-least (decode (at m₀ a)))
 
     -- IRQ: the vector, read after the pushes, is the one that was admitted

@@ -9,7 +9,8 @@ use lib.Dec.{eqb, leb}
 use lib.ListN.{length}
 use Rattle.rules.specs.declared.Verdict.the-variants.{Accepted}
 use Rattle.rules.specs.Bus.{images}
-use Rattle.admission_rules.specs.Admission.{Mark, main, handler, markAt, marksIn, some, isMark, wordAt, vectorsHold, ruleTests, admit}
+use Rattle.admission_rules.specs.declared.Mark.{Mark}
+use Rattle.admission_rules.specs.Admission.{main, handler, markAt, marksIn, some, isMark, wordAt, vectorsHold, ruleTests, admit}
 use Rattle.laws.proofs.Tests.{and-left, and-right, Hold}
 use Rattle.admission_rules.proofs.Admissions.{fits, accepted}
 use Rattle.admission_rules.proofs.Stacks.{Leads}

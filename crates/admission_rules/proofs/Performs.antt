@@ -5,7 +5,7 @@ use mathlib.Core.Path.{_≡_, refl, sym, ap, _∙_}
 use mathlib.Core.Bool.{Bool, true, false, false≢true}
 use mathlib.Core.List.{List}
 use borrow.Author.Tests.{lt-leb, leb-true, eq-eqb, eqb-true}
-use lib.Dec.{eqb}
+use lib.Dec.{leb, eqb}
 use lib.ListN.{length, set, length-set}
 use lib.Seq.{getD-set-other}
 use Rattle.rules.specs.declared.Cpu.{Cpu}
@@ -18,21 +18,25 @@ use Rattle.rules.specs.declared.Condition.{Condition}
 use Rattle.rules.specs.declared.Stacking.the-variants.{Php, Plp, Pha, Pla, Rts, Rti}
 use Rattle.rules.specs.declared.Instruction.{Instruction}
 use Rattle.rules.specs.declared.Instruction.the-variants.{Read, Store, Change, Accumulator, Implied, AtStack, Branch, Jump, JumpIndirect, Jsr, Brk, Txs, Cli, Undefined}
+use Rattle.rules.specs.declared.Refusal.the-variants.{Stack}
 use Rattle.rules.specs.Basics.{if_then_else_, at, address, sum8, sum16}
 use Rattle.rules.specs.Cycles.{Cycles, _>>=_}
 use Rattle.rules.specs.Flags.{byteOf4, flagsOf}
 use Rattle.rules.specs.Addressing.{load, place}
+use Rattle.rules.specs.Opcodes.{sizeOf, decode}
 use Rattle.rules.specs.Operations.{stack, down, withPc, used, taken, target, branchTo, push, pull, rts, rti, jsr, perform}
-use Rattle.rules.specs.Bus.{isProtected, images}
-use Rattle.admission_rules.specs.Admission.{Mark, markAt, main, routine, handler, storeTests, next, wordAt, goesOn, isAtZero, rulesOf}
+use Rattle.rules.specs.Bus.{isProtected}
+use Rattle.admission_rules.specs.declared.Mark.{Mark}
+use Rattle.admission_rules.specs.declared.Rules.{Rules}
+use Rattle.admission_rules.specs.declared.Rules.the-variants as rules
+use Rattle.admission_rules.specs.Admission.{markAt, main, routine, handler, reached, testsOf, one, goesOn, goesDown, isAtZero, rulesOf}
 use Rattle.admission_rules.specs.Safety.{Stacked, Effect, none, pushes, effectOf, stackedAfter, pushesOf}
 use Rattle.laws.proofs.Tests.{Hold, if-case, and-left, and-right}
 use Rattle.admission_rules.proofs.Stacks.{Stands, Leads, starts, alone, stays, pushes-one, pulls-one, calls, returns, goes-back}
-use Rattle.admission_rules.proofs.Admissions.{hold-left, hold-right}
 use Rattle.admission_rules.proofs.Marks.{Admitted, leads-to}
 use Rattle.admission_rules.proofs.Ends.{End, ends}
 use Rattle.admission_rules.proofs.Calm.{OffPage, Calm, calm-bind, set-byte, calmly}
-use Rattle.admission_rules.proofs.Places.{Bytes, Small, load-calm, place-calm}
+use Rattle.admission_rules.proofs.Places.{Bytes, Small, load-calm, unbroken, place-calm}
 use Rattle.admission_rules.proofs.Plain.{To, On, used-on, inside-on, same-on, changed-on, changed-good, accumulator-on, register-byte, p-byte}
 use Rattle.admission_rules.proofs.Shapes.{gives, small}
 
@@ -118,12 +122,16 @@ module _ (m₀ : List ℕ) (c : ℕ) (map : List ℕ) (ad : Admitted m₀ c map)
     at-pc : (n : ℕ) → Bytes (withPc n u)
     at-pc n = let w = g .registers in record { a = w .a; x = w .x; y = w .y; s = w .s }
 
-    abbrev Rules : Instruction → Type 0
-    Rules i = Hold (rulesOf images m₀ c map (v .i) i)
-
     -- "next address", where PC stands when the whole instruction was fetched
     abbrev pub n : ℕ
-    n = next images m₀ c map (v .i)
+    n = sum16 (mark .address) (sizeOf (decode (at m₀ (mark .address))))
+
+    -- the second byte after the opcode, as it was admitted
+    abbrev pub high : ℕ
+    high = at m₀ (sum16 (mark .address) 2)
+
+    abbrev Ruled : Instruction → Type 0
+    Ruled i = Hold (testsOf map (v .i) (rulesOf mark (v .i) n high i))
 
     abbrev pub w : Cpu
     w = withPc n u
@@ -132,37 +140,37 @@ module _ (m₀ : List ℕ) (c : ℕ) (map : List ℕ) (ad : Admitted m₀ c map)
     abbrev Does : Instruction → Type 0
     Does i = Done (effectOf i) (u .s) k (ends c (perform i w) m)
 
-    follows : (p : ℕ) → goesOn images m₀ c map (v .i) p .holds ≡ true → Follows p
+    follows : (p : ℕ) → reached map (goesOn mark p) ≡ true → Follows p
     follows p h = leads-to map p (mark .kind) (mark .height) 0 (mark .need) h
 
     next-lands : Follows n → (d : Cpu) → On w d → Lands d
     next-lands f d t = lands n f d t
 
-    does-read : (o : Reading) (d : Mode) → Small d → Rules (Read o d) → Does (Read o d)
+    does-read : (o : Reading) (d : Mode) → Small d → Ruled (Read o d) → Does (Read o d)
     unfolding rulesOf perform
     does-read o d h t =
         calm-done _ (calm-bind (λ x. x < 256) Lands (load w d) _ (load-calm w d h)
         (λ x q. next-lands (follows n (t .0)) (used o x w) (used-on o x w (at-pc n) q)))
 
-    does-store : (o : Storing) (d : Mode) → Small d → Rules (Store o d) → Does (Store o d)
+    does-store : (o : Storing) (d : Mode) → Small d → Ruled (Store o d) → Does (Store o d)
     unfolding rulesOf perform
     does-store o d h t =
-        let on = follows n (hold-right (storeTests (v .i) d) _ t .0) in
-        calm-done _ (calm-bind OffPage Lands (place w d) _ (place-calm (v .i) w d (at-pc n) h (hold-left (storeTests (v .i) d) _ t))
-        (λ p off. (off, register-byte o w (at-pc n), next-lands on w (same-on w (at-pc n)))))
+        let s = place-calm map (v .i) w d _ (at-pc n) h t in
+        calm-done _ (calm-bind OffPage Lands (place w d) _ (s .calm)
+        (λ p off. (off, register-byte o w (at-pc n), next-lands (follows n (s .rest .0)) w (same-on w (at-pc n)))))
 
-    does-change : (o : Changing) (d : Mode) → Small d → Rules (Change o d) → Does (Change o d)
+    does-change : (o : Changing) (d : Mode) → Small d → Ruled (Change o d) → Does (Change o d)
     unfolding rulesOf perform _>>=_
     does-change o d h t =
-        let on = follows n (hold-right (storeTests (v .i) d) _ t .0) in
-        calm-done _ (calm-bind OffPage Lands (place w d) _ (place-calm (v .i) w d (at-pc n) h (hold-left (storeTests (v .i) d) _ t))
-        (λ p off x q. (off, q, (off, changed-good o x (u .p) q .value, next-lands on _ (changed-on o x w (at-pc n) q)))))
+        let s = place-calm map (v .i) w d _ (at-pc n) h t in
+        calm-done _ (calm-bind OffPage Lands (place w d) _ (s .calm)
+        (λ p off x q. (off, q, (off, changed-good o x (u .p) q .value, next-lands (follows n (s .rest .0)) _ (changed-on o x w (at-pc n) q)))))
 
-    does-accumulator : (o : Changing) → Rules (Accumulator o) → Does (Accumulator o)
+    does-accumulator : (o : Changing) → Ruled (Accumulator o) → Does (Accumulator o)
     unfolding rulesOf perform
     does-accumulator o t = calm-done _ (next-lands (follows n (t .0)) _ (accumulator-on o w (at-pc n)))
 
-    does-implied : (o : Internal) → Rules (Implied o) → Does (Implied o)
+    does-implied : (o : Internal) → Ruled (Implied o) → Does (Implied o)
     unfolding rulesOf perform
     does-implied o t = calm-done _ (next-lands (follows n (t .0)) _ (inside-on o w (at-pc n)))
 
@@ -170,7 +178,7 @@ module _ (m₀ : List ℕ) (c : ℕ) (map : List ℕ) (ad : Admitted m₀ c map)
     there : (p : ℕ) → Follows p → Lands (withPc p w)
     there p f = lands p f (withPc p w) (same-on (withPc p w) (at-pc p))
 
-    does-branch : (x : Condition) (o : ℕ) → Rules (Branch x o) → Does (Branch x o)
+    does-branch : (x : Condition) (o : ℕ) → Ruled (Branch x o) → Does (Branch x o)
     unfolding rulesOf perform branchTo _>>=_
     does-branch x o t =
         let to = target n o in
@@ -179,7 +187,7 @@ module _ (m₀ : List ℕ) (c : ℕ) (map : List ℕ) (ad : Admitted m₀ c map)
         (λ h y q. if-case (Calm Lands) (eqb (to / 256) (n / 256)) _ _ (λ e. there to f) (λ e z r. there to f))
         (λ h. there n (follows n (t .0))))
 
-    does-jump : (low high : ℕ) → Rules (Jump low high) → Does (Jump low high)
+    does-jump : (low high : ℕ) → Ruled (Jump low high) → Does (Jump low high)
     unfolding rulesOf perform
     does-jump low high t = let a = address low high in calm-done _ (there a (follows a (t .0)))
 
@@ -199,31 +207,39 @@ module _ (m₀ : List ℕ) (c : ℕ) (map : List ℕ) (ad : Admitted m₀ c map)
               };
         })
 
-    does-pla : Rules (AtStack Pla) → Does (AtStack Pla)
+    -- a rule of 15 holds, and the rules r behind it
+    behind : (b : Bool) (r : Rules) → Hold (testsOf map (v .i) (if b then r else rules.Broken (Stack (v .i)))) → (b ≡ true) × Hold (testsOf map (v .i) r)
+    behind b r t = unbroken map (v .i) b (Stack (v .i)) r t
+
+    does-pla : Ruled (AtStack Pla) → Does (AtStack Pla)
     unfolding rulesOf perform pull ends _>>=_
     does-pla t =
+        let b = behind (leb 1 (mark .height)) (one (goesDown mark n)) t in
         record {
           only = refl;
           next =
               record {
                 stands =
-                    pulls-one map (ad .N) (u .s) (u .p .i) (u .pc) m k v n (leb-true 1 (mark .height) (t .0))
-                    (leads-to map n (mark .kind) (mark .height - 1) 0 (mark .need + 1) (t .1 .0));
+                    pulls-one map (ad .N) (u .s) (u .p .i) (u .pc) m k v n (leb-true 1 (mark .height) (b .0))
+                    (leads-to map n (mark .kind) (mark .height - 1) 0 (mark .need + 1) (b .1 .0));
                 registers = let r = g .registers in record { a = g .image .bytes _; x = r .x; y = r .y; s = omega arith };
                 image = g .image;
               };
         }
 
-    at-zero : (kind : ℕ) → isAtZero images m₀ c map (v .i) kind ≡ true → (mark .kind ≡ kind) × (mark .height ≡ 0)
+    abbrev none-follows : Rules
+    none-follows = rules.Leads 0 (goesOn mark n) (goesOn mark n)
+
+    at-zero : (kind : ℕ) → isAtZero mark kind ≡ true → (mark .kind ≡ kind) × (mark .height ≡ 0)
     at-zero kind h =
         let a = eqb (mark .kind) kind in
         let z = eqb (mark .height) 0 in
         (eqb-true _ _ (and-left a z h), eqb-true _ _ (and-right a z h))
 
-    does-rts : Rules (AtStack Rts) → Does (AtStack Rts)
+    does-rts : Ruled (AtStack Rts) → Does (AtStack Rts)
     unfolding rulesOf perform rts ends _>>=_
     does-rts t =
-        let z = at-zero routine (t .0) in
+        let z = at-zero routine (behind (isAtZero mark routine) none-follows t .0) in
         record {
           only = refl;
           next =
@@ -234,10 +250,10 @@ module _ (m₀ : List ℕ) (c : ℕ) (map : List ℕ) (ad : Admitted m₀ c map)
               };
         }
 
-    does-rti : Rules (AtStack Rti) → Does (AtStack Rti)
+    does-rti : Ruled (AtStack Rti) → Does (AtStack Rti)
     unfolding rulesOf perform rti ends _>>=_
     does-rti t =
-        let z = at-zero handler (t .0) in
+        let z = at-zero handler (behind (isAtZero mark handler) none-follows t .0) in
         record {
           only = refl;
           next =
@@ -248,11 +264,12 @@ module _ (m₀ : List ℕ) (c : ℕ) (map : List ℕ) (ad : Admitted m₀ c map)
               };
         }
 
-    does-txs : Rules Txs → Does Txs
+    does-txs : Ruled Txs → Does Txs
     unfolding rulesOf perform ends
     does-txs t =
-        let z = at-zero main (t .0) in
-        let on = follows n (t .1 .0) in
+        let b = behind (isAtZero mark main) (one (goesOn mark n)) t in
+        let z = at-zero main (b .0) in
+        let on = follows n (b .1 .0) in
         let idle = alone map (ad .N) (u .s) (u .p .i) (u .pc) m k v (z .0) in
         record {
           only = refl;
@@ -274,24 +291,25 @@ module _ (m₀ : List ℕ) (c : ℕ) (map : List ℕ) (ad : Admitted m₀ c map)
         }
 
     -- CLI stands in the main program, where no handler runs
-    does-cli : Rules Cli → Does Cli
+    does-cli : Ruled Cli → Does Cli
     unfolding rulesOf perform ends
     does-cli t =
-        let idle = alone map (ad .N) (u .s) (u .p .i) (u .pc) m k v (eqb-true _ _ (t .0)) in
+        let b = behind (eqb (mark .kind) main) (one (goesOn mark n)) t in
+        let idle = alone map (ad .N) (u .s) (u .p .i) (u .pc) m k v (eqb-true _ _ (b .0)) in
         record {
           only = refl;
           next =
               record {
                 stands =
-                    stays map (ad .N) (u .s) (u .p .i) (u .pc) m k v false n m (follows n (t .1 .0)) (λ h. sym (idle .0) ∙ h) (λ p h. refl);
+                    stays map (ad .N) (u .s) (u .p .i) (u .pc) m k v false n m (follows n (b .1 .0)) (λ h. sym (idle .0) ∙ h) (λ p h. refl);
                 registers = let r = g .registers in record { a = r .a; x = r .x; y = r .y; s = r .s };
                 image = g .image;
               };
         }
 
     -- JSR: "low, read at S, push PC+2 high, low, then high operand"; PC stands at the high operand, which the pushes leave as it is
-    pub does-jsr : (low p : ℕ) → p < 65536 → sum16 p 1 ≡ n → isProtected c p ≡ true → address low (at m₀ p) ≡ wordAt images m₀ c map (sum16 (mark .address) 1) →
-        Rules (Jsr low) → Done (pushes 2) (u .s) k (ends c (perform (Jsr low) (withPc p u)) m)
+    pub does-jsr : (low p : ℕ) → p < 65536 → sum16 p 1 ≡ n → isProtected c p ≡ true → at m₀ p ≡ high →
+        Ruled (Jsr low) → Done (pushes 2) (u .s) k (ends c (perform (Jsr low) (withPc p u)) m)
     unfolding rulesOf perform jsr ends _>>=_
     does-jsr low p h on code to t =
         let s = g .registers .s in
@@ -300,7 +318,7 @@ module _ (m₀ : List ℕ) (c : ℕ) (map : List ℕ) (ad : Admitted m₀ c map)
         let m₁ = set m (stack (u .s)) (p / 256) in
         let m₂ = set m₁ (stack (down 1 (u .s))) (p % 256) in
         let image = pushed-image m₁ (down 1 (u .s)) (p % 256) s₁ (omega arith) (pushed-image m (u .s) (p / 256) s (omega arith) (g .image)) in
-        let there = ap (address low) (image .code p code) ∙ to in
+        let there = ap (address low) (image .code p code ∙ to) in
         rw (stack-open (u .s) s, stack-page (u .s) s, stack-open (down 1 (u .s)) s₁, stack-page (down 1 (u .s)) s₁)
         (record {
           only = refl;
@@ -315,7 +333,7 @@ module _ (m₀ : List ℕ) (c : ℕ) (map : List ℕ) (ad : Admitted m₀ c map)
         })
 
     -- an instruction that was fetched whole
-    pub performs : (i : Instruction) (wide : Bool) (l h : ℕ) → gives wide l h i ≡ (l, h) → l < 256 → h < 256 → Rules i → Does i
+    pub performs : (i : Instruction) (wide : Bool) (l h : ℕ) → gives wide l h i ≡ (l, h) → l < 256 → h < 256 → Ruled i → Does i
     unfolding rulesOf perform
     performs (Read o d) wide l h e b b′ t = does-read o d (small wide l h d e b b′) t
     performs (Store o d) wide l h e b b′ t = does-store o d (small wide l h d e b b′) t

@@ -3,28 +3,27 @@ use Prim.Native.Nat.{ℕ, zero, suc, _+_, _-_, _*_, _/_, _%_}
 use mathlib.Core.Bool.{Bool, true, false, not, _&&_, _||_}
 use mathlib.Core.List.{List, [], _∷_, _++_}
 use lib.Dec.{ltb, leb, eqb}
-use lib.ListN.{length}
+use lib.ListN.{length, take}
 use Rattle.rules.specs.declared.Mode.{Mode}
 use Rattle.rules.specs.declared.Mode.the-variants.{Immediate, Zero, ZeroX, ZeroY, Absolute, AbsoluteX, AbsoluteY, IndirectX, IndirectY, IndirectBankY}
 use Rattle.rules.specs.declared.Stacking.the-variants.{Php, Plp, Pha, Pla, Rts, Rti}
 use Rattle.rules.specs.declared.Instruction.{Instruction}
 use Rattle.rules.specs.declared.Instruction.the-variants.{Read, Store, Change, Accumulator, Implied, AtStack, Branch, Jump, JumpIndirect, Jsr, Brk, Txs, Cli, Undefined}
-use Rattle.rules.specs.declared.Refusal.the-variants.{Admission, MapRecord, Vectors, Place, StoreAddress, Stack, Successor}
+use Rattle.rules.specs.declared.Refusal.the-variants.{Admission, MapRecord, Vectors, Place, StoreAddress, Stack}
+use Rattle.rules.specs.declared.Refusal.the-variants as refusal
 use Rattle.rules.specs.declared.Verdict.{Verdict}
 use Rattle.rules.specs.declared.Verdict.the-variants.{Accepted, Barred}
-use Rattle.rules.specs.Basics.{at, address, sum16}
-use Rattle.rules.specs.Opcodes.{Entry, decode, sizeOf, instructionOf}
+use Rattle.rules.specs.Basics.{if_then_else_, at, address, sum16}
+use Rattle.rules.specs.Opcodes.{decode, sizeOf, instructionOf}
 use Rattle.rules.specs.Operations.{target}
 use Rattle.rules.specs.Bus.{isProtected, Memory}
 use Rattle.rules.specs.Answers.{Test, _unless_, tested}
+use Rattle.admission_rules.specs.declared.Mark.{Mark}
+use Rattle.admission_rules.specs.declared.Successor.{Successor}
+use Rattle.admission_rules.specs.declared.Rules.{Rules}
+use Rattle.admission_rules.specs.declared.Rules.the-variants.{Broken, Leads}
 
--- "a map: 8-byte records with strictly ascending address (low, high), kind (1 main, 2 routine, 3 handler), height, need, three zeros"
-pub record Mark : Type 0 where
-  pub address : ℕ
-  pub kind : ℕ
-  pub height : ℕ
-  pub need : ℕ
-
+-- "kind (1 main, 2 routine, 3 handler)"
 abbrev pub main : ℕ
 main = 1
 
@@ -34,14 +33,11 @@ routine = 2
 abbrev pub handler : ℕ
 handler = 3
 
+-- "a map: 8-byte records with strictly ascending address (low, high), kind (1 main, 2 routine, 3 handler), height, need, three zeros"
 abbrev pub markAt : List ℕ → ℕ → Mark
 markAt map i =
-    record {
-      address = address (at map (8 * i)) (at map (8 * i + 1));
-      kind = at map (8 * i + 2);
-      height = at map (8 * i + 3);
-      need = at map (8 * i + 4);
-    }
+    let k = 8 * i in
+    record { address = address (at map k) (at map (k + 1)); kind = at map (k + 2); height = at map (k + 3); need = at map (k + 4) }
 
 abbrev pub marksIn : List ℕ → ℕ
 marksIn map = length map / 8
@@ -75,22 +71,83 @@ formTests map i =
     MapRecord i unless (eqb (at map (8 * i + 5)) 0 && eqb (at map (8 * i + 6)) 0 && eqb (at map (8 * i + 7)) 0) ∷
     MapRecord i unless ascends map i ∷ []
 
+-- a successor is marked as it is asked to be
+abbrev pub reached : List ℕ → Successor → Bool
+reached map s = marked map λ n. isMark (s .address) (s .kind) (s .height) n && leb (n .need + s .more) (s .limit)
+
+-- the rules of record i as tests
+abbrev pub testsOf : List ℕ → ℕ → Rules → List Test
+testsOf map i (Broken e) = e unless false ∷ []
+testsOf map i (Leads n s t) = take n (refusal.Successor i unless reached map s ∷ refusal.Successor i unless reached map t ∷ [])
+
+abbrev pub one : Successor → Rules
+one s = Leads 1 s s
+
 -- an address that is not from this one to 01FF
 abbrev pub outside : ℕ → ℕ → Bool
 outside least a = not (leb least a && leb a 0x01FF)
 
--- "Stores, shifts, INC, DEC: absolute address not 0100 to 01FF; a,X or a,Y base not 0001 to 01FF"; "not .. 81, 91"
-abbrev pub storeTests : ℕ → Mode → List Test
-storeTests i (Immediate v) = []
-storeTests i (Zero z) = []
-storeTests i (ZeroX z) = []
-storeTests i (ZeroY z) = []
-storeTests i (Absolute low high) = StoreAddress i unless outside 0x0100 (address low high) ∷ []
-storeTests i (AbsoluteX low high) = StoreAddress i unless outside 0x0001 (address low high) ∷ []
-storeTests i (AbsoluteY low high) = StoreAddress i unless outside 0x0001 (address low high) ∷ []
-storeTests i (IndirectX z) = Place i unless false ∷ []
-storeTests i (IndirectY z) = Place i unless false ∷ []
-storeTests i (IndirectBankY z) = Place i unless false ∷ []
+-- "Stores, shifts, INC, DEC: absolute address not 0100 to 01FF; a,X or a,Y base not 0001 to 01FF"; "not .. 81, 91"; and then the rules r
+abbrev pub stored : ℕ → Mode → Rules → Rules
+stored i (Immediate v) r = r
+stored i (Zero z) r = r
+stored i (ZeroX z) r = r
+stored i (ZeroY z) r = r
+stored i (Absolute low high) r = if outside 0x0100 (address low high) then r else Broken (StoreAddress i)
+stored i (AbsoluteX low high) r = if outside 0x0001 (address low high) then r else Broken (StoreAddress i)
+stored i (AbsoluteY low high) r = if outside 0x0001 (address low high) then r else Broken (StoreAddress i)
+stored i (IndirectX z) r = Broken (Place i)
+stored i (IndirectY z) r = Broken (Place i)
+stored i (IndirectBankY z) r = Broken (Place i)
+
+module _ (mark : Mark) where
+  -- "Each successor .. is marked with the same kind"
+  abbrev pub goesTo : ℕ → ℕ → ℕ → ℕ → Successor
+  goesTo p height more limit = record { address = p; kind = mark .kind; height = height; more = more; limit = limit }
+
+  -- "all others equal height, need at most this one"
+  abbrev pub goesOn : ℕ → Successor
+  goesOn p = goesTo p (mark .height) 0 (mark .need)
+
+  -- "PHA, PHP height one more, successor's need + 1 at most need"
+  abbrev pub goesUp : ℕ → Successor
+  goesUp p = goesTo p (mark .height + 1) 1 (mark .need)
+
+  -- "PLA height one less, successor's need at most need + 1"
+  abbrev pub goesDown : ℕ → Successor
+  goesDown p = goesTo p (mark .height - 1) 0 (mark .need + 1)
+
+  -- "JSR's target is also a routine of height 0, its need + 2 at most this need."
+  abbrev pub calls : ℕ → Successor
+  calls p = record { address = p; kind = routine; height = 0; more = 2; limit = mark .need }
+
+  -- "TXS: main, height 0. CLI: main. RTS: routine, height 0. RTI: handler, height 0. PLA: height at least 1."
+  abbrev pub isAtZero : ℕ → Bool
+  isAtZero kind = eqb (mark .kind) kind && eqb (mark .height) 0
+
+  -- An instruction's own rules, in the order of their numbers: "not BRK, PLP, JMP (a), 81, 91" (13), stores (14), the five above (15), and
+  -- "Each successor (next address, branch or jump target; none for RTS, RTI)" (16). Of JSR's target the instruction holds the low byte alone.
+  module _ (i next high : ℕ) where
+    unfoldable pub rulesOf : Instruction → Rules
+    rulesOf (Read o md) = one (goesOn next)
+    rulesOf (Store o md) = stored i md (one (goesOn next))
+    rulesOf (Change o md) = stored i md (one (goesOn next))
+    rulesOf (Accumulator o) = one (goesOn next)
+    rulesOf (Implied o) = one (goesOn next)
+    rulesOf (AtStack Php) = one (goesUp next)
+    rulesOf (AtStack Plp) = Broken (Place i)
+    rulesOf (AtStack Pha) = one (goesUp next)
+    rulesOf (AtStack Pla) = if leb 1 (mark .height) then one (goesDown next) else Broken (Stack i)
+    rulesOf (AtStack Rts) = if isAtZero routine then Leads 0 (goesOn next) (goesOn next) else Broken (Stack i)
+    rulesOf (AtStack Rti) = if isAtZero handler then Leads 0 (goesOn next) (goesOn next) else Broken (Stack i)
+    rulesOf (Branch t o) = Leads 2 (goesOn next) (goesOn (target next o))
+    rulesOf (Jump low high′) = one (goesOn (address low high′))
+    rulesOf (JumpIndirect low high′) = Broken (Place i)
+    rulesOf (Jsr low) = Leads 2 (goesOn next) (calls (address low high))
+    rulesOf Brk = Broken (Place i)
+    rulesOf Txs = if isAtZero main then one (goesOn next) else Broken (Stack i)
+    rulesOf Cli = if eqb (mark .kind) main then one (goesOn next) else Broken (Stack i)
+    rulesOf Undefined = Broken (Place i)
 
 module _ {M : Type 0} (memory : Memory M) (m : M) (c : ℕ) (map : List ℕ) where
   abbrev pub wordAt : ℕ → ℕ
@@ -107,75 +164,19 @@ module _ {M : Type 0} (memory : Memory M) (m : M) (c : ℕ) (map : List ℕ) whe
       marked map λ r. isMark (wordAt 0xFFFC) main 0 r
       && (marked map λ h. isMark (wordAt 0xFFFE) handler 0 h && leb (r .need + h .need + 3) 256)
 
-  -- the rules of record i
-  module _ (i : ℕ) where
-    abbrev pub mark : Mark
-    mark = markAt map i
+  -- "the whole instruction lies in protected pages"; "place, undefined or barred opcode"
+  unfoldable pub rulesAt : ℕ → Rules
+  rulesAt i =
+      let mark = markAt map i in
+      let p = mark .address in
+      let entry = decode (memory .peek m p) in
+      let high = memory .peek m (sum16 p 2) in
+      if isProtected c p && leb (p + sizeOf entry) 65536
+      then rulesOf mark i (sum16 p (sizeOf entry)) high (instructionOf entry (memory .peek m (sum16 p 1)) high)
+      else Broken (Place i)
 
-    abbrev pub entry : Entry
-    entry = decode (memory .peek m (mark .address))
-
-    -- "next address"
-    abbrev pub next : ℕ
-    next = sum16 (mark .address) (sizeOf entry)
-
-    -- p is marked with this kind and height, and a need that with d more is at most e
-    abbrev pub leadsTo : ℕ → ℕ → ℕ → ℕ → ℕ → Test
-    leadsTo p kind height d e = Successor i unless (marked map λ s. isMark p kind height s && leb (s .need + d) e)
-
-    -- "Each successor .. is marked with the same kind"
-    abbrev pub goesTo : ℕ → ℕ → ℕ → ℕ → Test
-    goesTo p = leadsTo p (mark .kind)
-
-    -- "all others equal height, need at most this one"
-    abbrev pub goesOn : ℕ → Test
-    goesOn p = goesTo p (mark .height) 0 (mark .need)
-
-    -- "PHA, PHP height one more, successor's need + 1 at most need"
-    abbrev pub goesUp : Test
-    goesUp = goesTo next (mark .height + 1) 1 (mark .need)
-
-    -- "PLA height one less, successor's need at most need + 1"
-    abbrev pub goesDown : Test
-    goesDown = goesTo next (mark .height - 1) 0 (mark .need + 1)
-
-    -- "JSR's target is also a routine of height 0, its need + 2 at most this need."
-    abbrev pub calls : Test
-    calls = leadsTo (wordAt (sum16 (mark .address) 1)) routine 0 2 (mark .need)
-
-    -- "TXS: main, height 0. CLI: main. RTS: routine, height 0. RTI: handler, height 0. PLA: height at least 1."
-    abbrev pub isAtZero : ℕ → Bool
-    isAtZero kind = eqb (mark .kind) kind && eqb (mark .height) 0
-
-    -- An instruction's own rules, in the order of their numbers: "not BRK, PLP, JMP (a), 81, 91" (13), stores (14), the five above (15), and
-    -- "Each successor (next address, branch or jump target; none for RTS, RTI)" (16).
-    unfoldable pub rulesOf : Instruction → List Test
-    rulesOf (Read o md) = goesOn next ∷ []
-    rulesOf (Store o md) = storeTests i md ++ goesOn next ∷ []
-    rulesOf (Change o md) = storeTests i md ++ goesOn next ∷ []
-    rulesOf (Accumulator o) = goesOn next ∷ []
-    rulesOf (Implied o) = goesOn next ∷ []
-    rulesOf (AtStack Php) = goesUp ∷ []
-    rulesOf (AtStack Plp) = Place i unless false ∷ []
-    rulesOf (AtStack Pha) = goesUp ∷ []
-    rulesOf (AtStack Pla) = Stack i unless leb 1 (mark .height) ∷ goesDown ∷ []
-    rulesOf (AtStack Rts) = Stack i unless isAtZero routine ∷ []
-    rulesOf (AtStack Rti) = Stack i unless isAtZero handler ∷ []
-    rulesOf (Branch t o) = goesOn next ∷ goesOn (target next o) ∷ []
-    rulesOf (Jump low high) = goesOn (address low high) ∷ []
-    rulesOf (JumpIndirect low high) = Place i unless false ∷ []
-    rulesOf (Jsr low) = goesOn next ∷ calls ∷ []
-    rulesOf Brk = Place i unless false ∷ []
-    rulesOf Txs = Stack i unless isAtZero main ∷ goesOn next ∷ []
-    rulesOf Cli = Stack i unless eqb (mark .kind) main ∷ goesOn next ∷ []
-    rulesOf Undefined = Place i unless false ∷ []
-
-    -- "the whole instruction lies in protected pages"; "place, undefined or barred opcode"
-    unfoldable pub ruleTests : List Test
-    ruleTests =
-        Place i unless isProtected c (mark .address) ∷
-        Place i unless leb (mark .address + sizeOf entry) 65536 ∷
-        rulesOf (instructionOf entry (memory .peek m (sum16 (mark .address) 1)) (memory .peek m (sum16 (mark .address) 2)))
+  abbrev pub ruleTests : ℕ → List Test
+  ruleTests i = testsOf map i (rulesAt i)
 
   -- "Admission: 10; 11, first record; 12; then the lowest record, and at it the lowest number."
   abbrev pub admissionTests : List Test

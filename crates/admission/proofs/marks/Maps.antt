@@ -8,14 +8,13 @@ use mathlib.Core.List.{List}
 use borrow.Author.Tests.{ne-eqb}
 use lib.Dec.{ltb}
 use Rattle.admission_rules.specs.Admission.{markAt, marksIn, some, marked, isMark, ascends}
-use Rattle.admission_rules.specs.Admission as rules
-use Rattle.admission.specs.declared.marks.Mark.{Mark}
-use Rattle.admission.specs.Maps.{markOf, Ascending, Found}
+use Rattle.admission_rules.specs.declared.Mark.{Mark}
+use Rattle.admission.specs.Maps.{Ascending, Found}
 
 pub ascends-first : (map : List ℕ) (i : ℕ) → i ≡ 0 → true ≡ ascends map i
 ascends-first map i e = rw e
 
-pub ascends-next : (map : List ℕ) (i : ℕ) → (i ≡ 0 → ⊥) → (m n : Mark) → m ≡ markOf map (i - 1) → n ≡ markOf map i → ltb (m .address) (n .address) ≡ ascends map i
+pub ascends-next : (map : List ℕ) (i : ℕ) → (i ≡ 0 → ⊥) → (m n : Mark) → m ≡ markAt map (i - 1) → n ≡ markAt map i → ltb (m .address) (n .address) ≡ ascends map i
 ascends-next map zero h m n p q = absurd (h refl)
 ascends-next map (suc i) h m n p q = let e : suc i - 1 ≡ i = omega arith in rw (p, q, e)
 
@@ -31,7 +30,7 @@ or-false true = refl
 or-false false = refl
 
 -- none of the marks is as f says, or at most one of them
-module _ (map : List ℕ) (f : rules.Mark → Bool) where
+module _ (map : List ℕ) (f : Mark → Bool) where
   none-so : (n : ℕ) → ((k : ℕ) → k < n → f (markAt map k) ≡ false) → some f map n ≡ false
   none-so zero h = refl
   none-so (suc n) h = rw (h n (omega arith)) (none-so n (λ k l. h k (omega arith)))
@@ -46,7 +45,7 @@ module _ (map : List ℕ) (f : rules.Mark → Bool) where
 
 -- what the map says of p: what its first record that is not below p says
 module _ (map : List ℕ) (asc : Ascending map) (p kind height r : ℕ) (found : Found map p r) (f : ℕ → Bool) where
-  abbrev so : rules.Mark → Bool
+  abbrev so : Mark → Bool
   so s = isMark p kind height s && f (s .need)
 
   elsewhere : (k : ℕ) → (markAt map k .address ≡ p → ⊥) → so (markAt map k) ≡ false

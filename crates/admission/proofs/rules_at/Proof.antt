@@ -1,30 +1,35 @@
+use native.Mathlib.Omega.{arith}
 use denote.Ref.{now}
-use Rattle.admission.proofs.Records.{unprotected, too-long, not-defined, its-own}
+use Rattle.admission.proofs.Records.{unprotected, too-long, its-own}
 use borrow.Author.Needs.{needs}
 use Rattle.admission.proofs.rules_at.Statement.{statement}
 use Rattle.admission.proofs.rules_at.Tie as tie
 
 returns : tie.Need-returns
 returns c =
-    let a = c .before .before .before .before .before .args in
-    λ v. unprotected (now (a .image)) (a .c) (now (a .map)) (a .i) _ (c .before .mark-at .ensures) v (c .if1 .taken)
+    let start = c .before .before .before .before in
+    unprotected (now (start .args .image)) (start .args .c) (now (start .args .map)) (start .args .i) _ (c .before .mark-at .ensures) (c .if1 .taken)
 
 returns-2 : tie.Need-returns-2
 returns-2 c =
-    let a = c .before .before .before .before .before .before .before .before .args in
-    λ v. too-long (now (a .image)) (a .c) (now (a .map)) (a .i) _ (c .before .before .before .before .mark-at .ensures) v (c .before .before .before .if1 .left) _ _ (c .before .before .entry-at .ensures) (c .before .size-of .ensures) (c .if2 .taken)
+    let at-decode = c .before .before in
+    let at-if1 = at-decode .before .before .before .before in
+    let at-mark = at-if1 .before in
+    let start = at-mark .before .before .before in
+    let a = start .args in
+    too-long (now (a .image)) (a .c) (now (a .map)) (a .i) _ (at-mark .mark-at .ensures) (at-if1 .if1 .left) _ _ _ _
+    (λ j. omega (arith, at-decode .before .shared-slice-known3 .given j)) (at-decode .before .before .before .byte-after .ensures) (at-decode .before .before .byte-after2 .ensures) (at-decode .decode .ensures) (c .before .size-of .ensures) (c .if2 .taken)
 
 returns-3 : tie.Need-returns-3
 returns-3 c =
-    let a = c .before .before .before .before .before .before .before .before .before .args in
-    λ v. not-defined (now (a .image)) (a .c) (now (a .map)) (a .i) _ (c .before .before .before .before .before .mark-at .ensures) v (c .before .before .before .before .if1 .left) _ _ (c .before .before .before .entry-at .ensures) (c .before .before .size-of .ensures) (c .before .if2 .left) (c .if3 .taken)
-
-returns-4 : tie.Need-returns-4
-returns-4 c =
-    let a = c .before .before .before .before .before .before .before .before .before .before .before .before .before .args in
-    λ v.
-    its-own (now (a .image)) (a .c) (now (a .map)) (a .i) _ (c .before .before .before .before .before .before .before .before .before .mark-at .ensures) v (c .before .before .before .before .before .before .before .before .if1 .left) _ _ (c .before .before .before .before .before .before .before .entry-at .ensures) (c .before .before .before .before .before .before .size-of .ensures) (c .before .before .before .before .before .if2 .left) (c .before .before .before .before .if3 .left) _ _ _ _
-    (c .before .before .before .byte-after .ensures) (c .before .before .byte-after2 .ensures) (c .before .wrapping-add-u16 .ensures) (c .rules-for .ensures)
+    let at-size = c .before .before .before in
+    let at-decode = at-size .before in
+    let at-if1 = at-decode .before .before .before .before in
+    let at-mark = at-if1 .before in
+    let start = at-mark .before .before .before in
+    let a = start .args in
+    its-own (now (a .image)) (a .c) (now (a .map)) (a .i) _ (at-mark .mark-at .ensures) (at-if1 .if1 .left) _ _ _ _
+    (λ j. omega (arith, at-decode .before .shared-slice-known3 .given j)) (at-decode .before .before .before .byte-after .ensures) (at-decode .before .before .byte-after2 .ensures) (at-decode .decode .ensures) (at-size .size-of .ensures) (c .before .before .if2 .left) _ _ (c .before .wrapping-add-u16 .ensures) (c .rules-for .ensures)
 
 pub rules-at-spec : {M : Type 1} → statement M
 rules-at-spec =
@@ -38,11 +43,12 @@ rules-at-spec =
     (λ c κs. search needs)
     (λ c. search needs)
     (λ c. search needs)
+    (λ c κs. search needs)
+    (λ c κs. search needs)
+    (λ c. search needs)
+    (λ c. search needs)
     (λ c. search needs)
     returns-2
-    returns-3
     (λ c κs. search needs)
     (λ c κs. search needs)
-    (λ c κs. search needs)
-    (λ c κs. search needs)
-    returns-4)
+    returns-3)

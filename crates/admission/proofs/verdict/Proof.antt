@@ -13,35 +13,54 @@ returns c =
     let a = c .before .before .before .before .args in
     sym (unfit (now (a .image)) (a .c) (now (a .map)) (sym (c .before .input-fits .ensures) ∙ not-true _ (c .if1 .taken)))
 
-cast-t11 : tie.Need-cast-t11
-cast-t11 c =
-    let a = c .before .before .before .before .before .before .args in
-    omega (arith, lengths-fit (now (a .image)) (a .c) (now (a .map)) (sym (c .before .before .before .input-fits .ensures) ∙ not-false _ (c .before .before .if1 .left)))
+cast-t10 : tie.Need-cast-t10
+cast-t10 c =
+    let at-fits = c .before .before .before in
+    let a = at-fits .before .before .before .args in
+    let fit = sym (at-fits .input-fits .ensures) ∙ not-false _ (c .before .before .if1 .left) in
+    omega (arith, lengths-fit (now (a .image)) (a .c) (now (a .map)) fit)
 
 returns-2 : tie.Need-returns-2
 returns-2 c =
-    let a = c .before .before .before .before .before .before .args in
-    sym (bad-record (now (a .image)) (a .c) (now (a .map)) (sym (c .before .before .before .input-fits .ensures) ∙ not-false _ (c .before .before .if1 .left)) _ (c .before .first-malformed .ensures) (c .if2 .taken))
+    let at-fits = c .before .before .before in
+    let a = at-fits .before .before .before .args in
+    let fit = sym (at-fits .input-fits .ensures) ∙ not-false _ (c .before .before .if1 .left) in
+    sym (bad-record (now (a .image)) (a .c) (now (a .map)) fit _ (c .before .first-malformed .ensures) (c .if2 .taken))
 
 vectors-hold-requires : tie.Need-vectors-hold-requires
 vectors-hold-requires c κs =
-    let a = c .before .before .before .before .before .before .args in
-    (lengths-fit (now (a .image)) (a .c) (now (a .map)) (sym (c .before .before .before .input-fits .ensures) ∙ not-false _ (c .before .before .if1 .left)) .0, (ascending _ _ (c .before .first-malformed .ensures) (c .if2 .left)))
+    let at-fits = c .before .before .before in
+    let a = at-fits .before .before .before .args in
+    let fit = sym (at-fits .input-fits .ensures) ∙ not-false _ (c .before .before .if1 .left) in
+    (lengths-fit (now (a .image)) (a .c) (now (a .map)) fit .0, (ascending _ _ (c .before .first-malformed .ensures) (c .if2 .left)))
 
 returns-3 : tie.Need-returns-3
 returns-3 c =
-    let a = c .before .before .before .before .before .before .before .before .args in
-    sym (bad-vectors (now (a .image)) (a .c) (now (a .map)) (sym (c .before .before .before .before .before .input-fits .ensures) ∙ not-false _ (c .before .before .before .before .if1 .left)) _ (c .before .before .before .first-malformed .ensures) (c .before .before .if2 .left) (sym (c .before .vectors-hold .ensures _) ∙ not-true _ (c .if3 .taken)))
+    let at-forms = c .before .before .before in
+    let at-fits = at-forms .before .before in
+    let a = at-fits .before .before .before .args in
+    let fit = sym (at-fits .input-fits .ensures) ∙ not-false _ (at-forms .before .if1 .left) in
+    let none = sym (c .before .vectors-hold .ensures _) ∙ not-true _ (c .if3 .taken) in
+    sym (bad-vectors (now (a .image)) (a .c) (now (a .map)) fit _ (at-forms .first-malformed .ensures) (c .before .before .if2 .left) none)
 
 judge-requires : tie.Need-judge-requires
 judge-requires c κs =
-    let a = c .before .before .before .before .before .before .before .before .before .before .args in
-    (lengths-fit (now (a .image)) (a .c) (now (a .map)) (sym (c .before .before .before .before .before .before .before .input-fits .ensures) ∙ not-false _ (c .before .before .before .before .before .before .if1 .left)), (ascending _ _ (c .before .before .before .before .before .first-malformed .ensures) (c .before .before .before .before .if2 .left)), c .before .entries .ensures)
+    let at-forms = c .before .before .before in
+    let at-fits = at-forms .before .before in
+    let a = at-fits .before .before .before .args in
+    let fit = sym (at-fits .input-fits .ensures) ∙ not-false _ (at-forms .before .if1 .left) in
+    (lengths-fit (now (a .image)) (a .c) (now (a .map)) fit, (ascending _ _ (at-forms .first-malformed .ensures) (c .before .before .if2 .left)))
 
 returns-4 : tie.Need-returns-4
 returns-4 c =
-    let a = c .before .before .before .before .before .before .before .before .before .before .before .args in
-    c .judge .ensures ∙ sym (records-left (now (a .image)) (a .c) (now (a .map)) (sym (c .before .before .before .before .before .before .before .before .input-fits .ensures) ∙ not-false _ (c .before .before .before .before .before .before .before .if1 .left)) _ (c .before .before .before .before .before .before .first-malformed .ensures) (c .before .before .before .before .before .if2 .left) (sym (c .before .before .before .before .vectors-hold .ensures _) ∙ not-false _ (c .before .before .before .if3 .left)))
+    let at-if2 = c .before .before .before in
+    let at-forms = at-if2 .before in
+    let at-fits = at-forms .before .before in
+    let a = at-fits .before .before .before .args in
+    let fit = sym (at-fits .input-fits .ensures) ∙ not-false _ (at-forms .before .if1 .left) in
+    let held = sym (c .before .before .vectors-hold .ensures _) ∙ not-false _ (c .before .if3 .left) in
+    c .judge .ensures
+    ∙ sym (records-left (now (a .image)) (a .c) (now (a .map)) fit _ (at-forms .first-malformed .ensures) (at-if2 .if2 .left) held)
 
 pub verdict-spec : {M : Type 1} → statement M
 verdict-spec =
@@ -50,11 +69,9 @@ verdict-spec =
     (λ c κs. search needs)
     returns
     (λ c κs. search needs)
-    cast-t11
+    cast-t10
     returns-2
     vectors-hold-requires
     returns-3
-    (λ c κs. search needs)
-    (λ c. search needs)
     judge-requires
     returns-4)

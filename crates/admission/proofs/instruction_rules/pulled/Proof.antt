@@ -8,7 +8,10 @@ returns : tie.Need-returns
 returns c = rw (lt-leb 1 (c .before .before .args .m .height) (omega arith))
 
 returns-2 : tie.Need-returns-2
-returns-2 c = rw (le-leb 1 (c .before .before .before .before .before .before .args .m .height) (omega (arith, c .before .before .before .before .if1 .left)), c .one .ensures, c .before .goes-to .ensures)
+returns-2 c =
+    let at-if1 = c .before .before .before .before in
+    let start = at-if1 .before .before in
+    rw (le-leb 1 (start .args .m .height) (omega (arith, at-if1 .if1 .left)), c .one .ensures, c .before .goes-to .ensures)
 
 pub pulled-spec : {M : Type 1} → statement M
 pulled-spec =
