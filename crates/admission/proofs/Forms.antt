@@ -52,7 +52,8 @@ module _ (map : List ℕ) where
 
     pub malformed : r < marksIn map → forms ≡ Barred (MapRecord r)
     malformed h =
-        reaches ∙ record-first (formTests map) r (marksIn map) v h ∙ form-is r (from (formTests map) (r + 1) (marksIn map) v) ∙ (rw (f .bad h))
+        let later = from (formTests map) (r + 1) (marksIn map) v in
+        reaches ∙ record-first (formTests map) r (marksIn map) v h ∙ form-is r later ∙ (rw (f .bad h))
 
     pub all-formed : marksIn map ≤ r → forms ≡ v
     all-formed h = reaches ∙ no-record (formTests map) r (marksIn map) v h
@@ -62,7 +63,8 @@ module _ (map : List ℕ) where
     where
       one : (k : ℕ) → suc k < marksIn map → markAt map k .address < markAt map (suc k) .address
       one k l =
-          ltb-true (markAt map k .address) (markAt map (suc k) .address) (and-right (shaped map (suc k)) (ascends map (suc k)) (f .before (suc k) (omega arith)))
+          let up = and-right (shaped map (suc k)) (ascends map (suc k)) (f .before (suc k) (omega arith)) in
+          ltb-true (markAt map k .address) (markAt map (suc k) .address) up
 
       go : (j k : ℕ) → j < k → k < marksIn map → markAt map j .address < markAt map k .address
       go j zero l n = absurd (omega arith)

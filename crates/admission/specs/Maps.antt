@@ -32,8 +32,8 @@ pub record Found (map : List ℕ) (p r : ℕ) : Type 0 where
   pub below : (k : ℕ) → k < r → markAt map k .address < p
   pub above : (k : ℕ) → r ≤ k → k < marksIn map → p ≤ markAt map k .address
 
--- r is the need of the mark of p with this kind and height, or, where there is none, 65536: a test of needs that 65536 fails says the same of r
--- as of the map
+-- r is the need of the mark of p with this kind and height, or, where there is none, 65536: a test of needs that 65536 fails says the same
+-- of r as of the map
 pub record NeedAt (map : List ℕ) (p kind height r : ℕ) : Type 0 where
   pub within : r ≤ 65536
   pub tells : (f : ℕ → Bool) → f 65536 ≡ false → f r ≡ (marked map λ s. isMark p kind height s && f (s .need))

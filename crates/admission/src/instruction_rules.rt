@@ -199,21 +199,22 @@ fn rules_for_stacking(o: Stacking, m: Mark, next: u16, i: u16) -> Rules
 pub(crate) fn rules_for(instruction: Instruction, high: u8, m: Mark, next: u16, i: u16) -> Rules
     ensures { λ r. ⌜ r ≡ rulesOf m i next high instruction ⌝ }
 {
-    let on = goes_on(m, next);
+    let next_one = goes_on(m, next);
+    let on = one(next_one);
     match instruction {
-        Instruction::Read(o, mode) => one(on),
-        Instruction::Store(o, mode) => stored(mode, i, one(on)),
-        Instruction::Change(o, mode) => stored(mode, i, one(on)),
-        Instruction::Accumulator(o) => one(on),
-        Instruction::Implied(o) => one(on),
+        Instruction::Read(o, mode) => on,
+        Instruction::Store(o, mode) => stored(mode, i, on),
+        Instruction::Change(o, mode) => stored(mode, i, on),
+        Instruction::Accumulator(o) => on,
+        Instruction::Implied(o) => on,
         Instruction::AtStack(o) => rules_for_stacking(o, m, next, i),
-        Instruction::Branch(t, o) => Rules::Leads(2, on, goes_on(m, bytes::target(next, o))),
+        Instruction::Branch(t, o) => Rules::Leads(2, next_one, goes_on(m, bytes::target(next, o))),
         Instruction::Jump(low, second) => one(goes_on(m, bytes::join(low, second))),
         Instruction::JumpIndirect(low, second) => Rules::Broken(Refusal::Place(i)),
-        Instruction::Jsr(low) => Rules::Leads(2, on, calls(m, bytes::join(low, high))),
+        Instruction::Jsr(low) => Rules::Leads(2, next_one, calls(m, bytes::join(low, high))),
         Instruction::Brk => Rules::Broken(Refusal::Place(i)),
-        Instruction::Txs => unless(is_at_zero(m, marks::MAIN), Refusal::Stack(i), one(on)),
-        Instruction::Cli => unless(m.kind == marks::MAIN, Refusal::Stack(i), one(on)),
+        Instruction::Txs => unless(is_at_zero(m, marks::MAIN), Refusal::Stack(i), on),
+        Instruction::Cli => unless(m.kind == marks::MAIN, Refusal::Stack(i), on),
         Instruction::Undefined => Rules::Broken(Refusal::Place(i)),
     }
 }

@@ -73,8 +73,8 @@ fn rules_at(image: &[u8], c: u8, map: &[u8], i: usize) -> Rules
     instruction_rules::rules_for(instruction, high, m, next, index)
 }
 
-// 13 to 16: "the lowest record, and at it the lowest number". The loop over the records and the one over a record's successors are both left
-// by the label at the first broken rule.
+// 13 to 16: "the lowest record, and at it the lowest number". The loop over the records and the one over a record's successors are both
+// left by the label at the first broken rule.
 fn judge(image: &[u8], c: u8, map: &[u8]) -> Verdict
     requires { ⌜ ((length (now image) ≡ 65536) × (length (now map) ≤ 65536)) × Ascending (now map) ⌝ }
     ensures { λ r. ⌜ r ≡ tested (ofRecords (ruleTests images (now (image .entry)) c (now (map .entry))) 0 (marksIn (now (map .entry)))) Barred Accepted ⌝ }

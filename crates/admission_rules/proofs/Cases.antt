@@ -90,5 +90,5 @@ maps =
     ∷ []
 
 computed-maps : failing 1 maps ≡ []
-unfolding opened formTests vectorsHold rulesOf rulesAt admit
+unfolding opened formTests vectorsHold rulesAt admit
 computed-maps = refl

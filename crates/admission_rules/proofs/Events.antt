@@ -78,15 +78,18 @@ module _ (m₀ : List ℕ) (c : ℕ) (map : List ℕ) (ad : Admitted m₀ c map)
     entry-here : (e : Entry) → isProtected c a ≡ true → decode (at m₀ a) ≡ e → decode (at m (u .pc)) ≡ e
     entry-here e h d = ap (λ (p : ℕ). decode (at m p)) (sym (s .address)) ∙ ap decode (g .image .code a h) ∙ d
 
-    finish : (e : Entry) → decode (at m (u .pc)) ≡ e → isDefined e ≡ true →
-        Done m₀ c map ad (effectOf (instructionOf e low high)) (u .s) k (ends c (perform (instructionOf e low high) (withPc (sum16 (u .pc) (fetchedBy e)) u)) m) → Executes
+    -- what the entry e makes of the bytes at PC, performed where it was fetched, ends as the effect f says
+    abbrev Ends : Entry → Effect → Type 0
+    Ends e f = Done m₀ c map ad f (u .s) k (ends c (perform (instructionOf e low high) (withPc (sum16 (u .pc) (fetchedBy e)) u)) m)
+
+    finish : (e : Entry) → decode (at m (u .pc)) ≡ e → isDefined e ≡ true → Ends e (effectOf (instructionOf e low high)) → Executes
     finish e d h x =
         let effect = ap (λ (y : Entry). effectOf (instructionOf y low high)) d in
         record {
           defined = ap isDefined d ∙ h;
           done =
               subst (λ (y : End Cpu). Done m₀ c map ad (effectHere u m) (u .s) k y) (sym (instruction-ends c u m e d h))
-              (subst (λ (y : Effect). Done m₀ c map ad y (u .s) k (ends c (perform (instructionOf e low high) (withPc (sum16 (u .pc) (fetchedBy e)) u)) m)) (sym effect) x);
+              (subst (λ (y : Effect). Ends e y) (sym effect) x);
         }
 
     -- PC past the whole instruction, as the rules have it
@@ -113,11 +116,11 @@ module _ (m₀ : List ℕ) (c : ℕ) (map : List ℕ) (ad : Admitted m₀ c map)
     kept : Kept
     unfolding rulesAt
     kept =
-        let t = unbroken map (s .i) (isProtected c a && leb (a + sizeOf (decode (at m₀ a))) 65536) _ _ (ad .rules (s .i) (s .goes .within)) in
+        let fits = leb (a + sizeOf (decode (at m₀ a))) 65536 in
+        let t = unbroken map (s .i) (isProtected c a && fits) _ _ (ad .rules (s .i) (s .goes .within)) in
         record { protected = and-left _ _ (t .0); fits = and-right (isProtected c a) _ (t .0); ruled = t .1 }
 
     pub executes : Executes
-    unfolding rulesOf
     executes = go (decode (at m₀ a)) refl (kept .protected) (kept .fits) (kept .ruled)
       where
         go : (e : Entry) → decode (at m₀ a) ≡ e → isProtected c a ≡ true → leb (a + sizeOf e) 65536 ≡ true →
@@ -136,7 +139,8 @@ module _ (m₀ : List ℕ) (c : ℕ) (map : List ℕ) (ad : Admitted m₀ c map)
             let same = code-here h 1 (omega (arith, leb-true (a + 3) 65536 l)) in
             let p = sum16 (u .pc) 2 in
             let past = on-one (u .pc) 2 ∙ sym (next-is (late f) d) in
-            let code = ap (λ (q : ℕ). isProtected c (sum16 q 2)) (sym (s .address)) ∙ protected-on c a 2 h (omega (arith, leb-true (a + 3) 65536 l)) in
+            let at-pc : isProtected c p ≡ isProtected c (sum16 a 2) = ap (λ (q : ℕ). isProtected c (sum16 q 2)) (sym (s .address)) in
+            let code = at-pc ∙ protected-on c a 2 h (omega (arith, leb-true (a + 3) 65536 l)) in
             finish (late f) (entry-here (late f) h d) refl
             (subst (λ (i : Instruction). Done m₀ c map ad (effectOf i) (u .s) k (ends c (perform i (withPc p u)) m)) (sym call)
             (does-jsr m₀ c map ad u m k g low p (omega arith) past code (ap (λ (q : ℕ). at m₀ (sum16 q 2)) (sym (s .address)))
@@ -174,9 +178,10 @@ module _ (m₀ : List ℕ) (c : ℕ) (map : List ℕ) (ad : Admitted m₀ c map)
           next =
               record {
                 stands =
-                    interrupts map (ad .N) (u .s) (u .p .i) (u .pc) m k s clear (r .s) (g .image .size) (byteOf (u .p)) (u .pc % 256) (u .pc / 256)
-                    (address (at m₃ 0xFFFE) (at m₃ 0xFFFF)) (ad .H) whole (ad .room)
-                    (rw (image₃ .code 0xFFFE (vector-protected 0xFFFE refl), image₃ .code 0xFFFF (vector-protected 0xFFFF refl)) (ad .serves));
+                    interrupts map (ad .N) (u .s) (u .p .i) (u .pc) m k s clear (r .s) (g .image .size) (byteOf (u .p)) (u .pc % 256)
+                    (u .pc / 256) (address (at m₃ 0xFFFE) (at m₃ 0xFFFF)) (ad .H) whole (ad .room)
+                    (rw (image₃ .code 0xFFFE (vector-protected 0xFFFE refl), image₃ .code 0xFFFF (vector-protected 0xFFFF refl))
+                    (ad .serves));
                 registers = record { a = r .a; x = r .x; y = r .y; s = omega arith };
                 image = image₃;
               };
@@ -238,7 +243,8 @@ module _ (m₀ : List ℕ) (c : ℕ) (map : List ℕ) (ad : Admitted m₀ c map)
       go false false z false i e = runs
 
   -- between two steps
-  pub others-image : (m m′ : List ℕ) → length m ≡ 65536 → ((p : ℕ) → isProtected c p ≡ true → at m p ≡ at m₀ p) → Unaltered c m m′ → Image m₀ c map ad m′
+  pub others-image : (m m′ : List ℕ) → length m ≡ 65536 → ((p : ℕ) → isProtected c p ≡ true → at m p ≡ at m₀ p) → Unaltered c m m′ →
+      Image m₀ c map ad m′
   others-image m m′ size code o =
       record { size = o .size ∙ size; bytes = o .bytes; code = λ p h. o .protectedPages p h ∙ code p h }
 

@@ -99,6 +99,8 @@ module _ (m : List ℕ) (c : ℕ) (map : List ℕ) where
         H = mark .need;
         starts =
             leads map _ main 0 0 _ (r .i) (r .within) (and-left (isMain main-mark) (some (serves main-mark) map n) (r .is)) (omega arith);
-        serves = leads map _ handler 0 0 _ (h .i) (h .within) (and-left (isHandler mark) (leb (main-mark .need + mark .need + 3) 256) (h .is)) (omega arith);
+        serves =
+            leads map _ handler 0 0 _ (h .i) (h .within) (and-left (isHandler mark) (leb (main-mark .need + mark .need + 3) 256) (h .is))
+            (omega arith);
         room = leb-true _ _ room;
       }

@@ -29,7 +29,7 @@ use Rattle.rules.specs.Bus.{isProtected}
 use Rattle.admission_rules.specs.declared.Mark.{Mark}
 use Rattle.admission_rules.specs.declared.Rules.{Rules}
 use Rattle.admission_rules.specs.declared.Rules.the-variants as rules
-use Rattle.admission_rules.specs.Admission.{markAt, main, routine, handler, reached, testsOf, one, goesOn, goesDown, isAtZero, rulesOf}
+use Rattle.admission_rules.specs.Admission.{markAt, main, routine, handler, reached, testsOf, one, goesOn, goesUp, goesDown, isAtZero, rulesOf}
 use Rattle.admission_rules.specs.Safety.{Stacked, Effect, none, pushes, effectOf, stackedAfter, pushesOf}
 use Rattle.laws.proofs.Tests.{Hold, if-case, and-left, and-right}
 use Rattle.admission_rules.proofs.Stacks.{Stands, Leads, starts, alone, stays, pushes-one, pulls-one, calls, returns, goes-back}
@@ -147,31 +147,33 @@ module _ (m₀ : List ℕ) (c : ℕ) (map : List ℕ) (ad : Admitted m₀ c map)
     next-lands f d t = lands n f d t
 
     does-read : (o : Reading) (d : Mode) → Small d → Ruled (Read o d) → Does (Read o d)
-    unfolding rulesOf perform
+    unfolding perform
     does-read o d h t =
         calm-done _ (calm-bind (λ x. x < 256) Lands (load w d) _ (load-calm w d h)
         (λ x q. next-lands (follows n (t .0)) (used o x w) (used-on o x w (at-pc n) q)))
 
     does-store : (o : Storing) (d : Mode) → Small d → Ruled (Store o d) → Does (Store o d)
-    unfolding rulesOf perform
+    unfolding perform
     does-store o d h t =
         let s = place-calm map (v .i) w d _ (at-pc n) h t in
+        let on = follows n (s .rest .0) in
         calm-done _ (calm-bind OffPage Lands (place w d) _ (s .calm)
-        (λ p off. (off, register-byte o w (at-pc n), next-lands (follows n (s .rest .0)) w (same-on w (at-pc n)))))
+        (λ p off. (off, register-byte o w (at-pc n), next-lands on w (same-on w (at-pc n)))))
 
     does-change : (o : Changing) (d : Mode) → Small d → Ruled (Change o d) → Does (Change o d)
-    unfolding rulesOf perform _>>=_
+    unfolding perform _>>=_
     does-change o d h t =
         let s = place-calm map (v .i) w d _ (at-pc n) h t in
+        let on = follows n (s .rest .0) in
         calm-done _ (calm-bind OffPage Lands (place w d) _ (s .calm)
-        (λ p off x q. (off, q, (off, changed-good o x (u .p) q .value, next-lands (follows n (s .rest .0)) _ (changed-on o x w (at-pc n) q)))))
+        (λ p off x q. (off, q, (off, changed-good o x (u .p) q .value, next-lands on _ (changed-on o x w (at-pc n) q)))))
 
     does-accumulator : (o : Changing) → Ruled (Accumulator o) → Does (Accumulator o)
-    unfolding rulesOf perform
+    unfolding perform
     does-accumulator o t = calm-done _ (next-lands (follows n (t .0)) _ (accumulator-on o w (at-pc n)))
 
     does-implied : (o : Internal) → Ruled (Implied o) → Does (Implied o)
-    unfolding rulesOf perform
+    unfolding perform
     does-implied o t = calm-done _ (next-lands (follows n (t .0)) _ (inside-on o w (at-pc n)))
 
     -- at another address, the registers as they are
@@ -179,7 +181,7 @@ module _ (m₀ : List ℕ) (c : ℕ) (map : List ℕ) (ad : Admitted m₀ c map)
     there p f = lands p f (withPc p w) (same-on (withPc p w) (at-pc p))
 
     does-branch : (x : Condition) (o : ℕ) → Ruled (Branch x o) → Does (Branch x o)
-    unfolding rulesOf perform branchTo _>>=_
+    unfolding perform branchTo _>>=_
     does-branch x o t =
         let to = target n o in
         let f = follows to (t .1 .0) in
@@ -188,31 +190,33 @@ module _ (m₀ : List ℕ) (c : ℕ) (map : List ℕ) (ad : Admitted m₀ c map)
         (λ h. there n (follows n (t .0))))
 
     does-jump : (low high : ℕ) → Ruled (Jump low high) → Does (Jump low high)
-    unfolding rulesOf perform
+    unfolding perform
     does-jump low high t = let a = address low high in calm-done _ (there a (follows a (t .0)))
 
     -- one more on the stack: PHA, PHP
-    does-push : (x : ℕ) → x < 256 → Leads map n (mark .kind) (mark .height + 1) 1 (mark .need) → Done (pushes 1) (u .s) k (ends c (push x w) m)
+    does-push : (x : ℕ) → x < 256 → reached map (goesUp mark n) ≡ true → Done (pushes 1) (u .s) k (ends c (push x w) m)
     unfolding push ends _>>=_
     does-push x h f =
         let s = g .registers .s in
+        let up = leads-to map n (mark .kind) (mark .height + 1) 1 (mark .need) f in
         rw (stack-open (u .s) s, stack-page (u .s) s)
         (record {
           only = refl;
           next =
               record {
-                stands = pushes-one map (ad .N) (u .s) (u .p .i) (u .pc) m k v few s (g .image .size) x n f;
+                stands = pushes-one map (ad .N) (u .s) (u .p .i) (u .pc) m k v few s (g .image .size) x n up;
                 registers = let r = g .registers in record { a = r .a; x = r .x; y = r .y; s = omega arith };
                 image = pushed-image m (u .s) x s h (g .image);
               };
         })
 
     -- a rule of 15 holds, and the rules r behind it
-    behind : (b : Bool) (r : Rules) → Hold (testsOf map (v .i) (if b then r else rules.Broken (Stack (v .i)))) → (b ≡ true) × Hold (testsOf map (v .i) r)
+    behind : (b : Bool) (r : Rules) → Hold (testsOf map (v .i) (if b then r else rules.Broken (Stack (v .i)))) →
+        (b ≡ true) × Hold (testsOf map (v .i) r)
     behind b r t = unbroken map (v .i) b (Stack (v .i)) r t
 
     does-pla : Ruled (AtStack Pla) → Does (AtStack Pla)
-    unfolding rulesOf perform pull ends _>>=_
+    unfolding perform pull ends _>>=_
     does-pla t =
         let b = behind (leb 1 (mark .height)) (one (goesDown mark n)) t in
         record {
@@ -237,7 +241,7 @@ module _ (m₀ : List ℕ) (c : ℕ) (map : List ℕ) (ad : Admitted m₀ c map)
         (eqb-true _ _ (and-left a z h), eqb-true _ _ (and-right a z h))
 
     does-rts : Ruled (AtStack Rts) → Does (AtStack Rts)
-    unfolding rulesOf perform rts ends _>>=_
+    unfolding perform rts ends _>>=_
     does-rts t =
         let z = at-zero routine (behind (isAtZero mark routine) none-follows t .0) in
         record {
@@ -251,7 +255,7 @@ module _ (m₀ : List ℕ) (c : ℕ) (map : List ℕ) (ad : Admitted m₀ c map)
         }
 
     does-rti : Ruled (AtStack Rti) → Does (AtStack Rti)
-    unfolding rulesOf perform rti ends _>>=_
+    unfolding perform rti ends _>>=_
     does-rti t =
         let z = at-zero handler (behind (isAtZero mark handler) none-follows t .0) in
         record {
@@ -265,7 +269,7 @@ module _ (m₀ : List ℕ) (c : ℕ) (map : List ℕ) (ad : Admitted m₀ c map)
         }
 
     does-txs : Ruled Txs → Does Txs
-    unfolding rulesOf perform ends
+    unfolding perform ends
     does-txs t =
         let b = behind (isAtZero mark main) (one (goesOn mark n)) t in
         let z = at-zero main (b .0) in
@@ -292,7 +296,7 @@ module _ (m₀ : List ℕ) (c : ℕ) (map : List ℕ) (ad : Admitted m₀ c map)
 
     -- CLI stands in the main program, where no handler runs
     does-cli : Ruled Cli → Does Cli
-    unfolding rulesOf perform ends
+    unfolding perform ends
     does-cli t =
         let b = behind (eqb (mark .kind) main) (one (goesOn mark n)) t in
         let idle = alone map (ad .N) (u .s) (u .p .i) (u .pc) m k v (eqb-true _ _ (b .0)) in
@@ -310,14 +314,15 @@ module _ (m₀ : List ℕ) (c : ℕ) (map : List ℕ) (ad : Admitted m₀ c map)
     -- JSR: "low, read at S, push PC+2 high, low, then high operand"; PC stands at the high operand, which the pushes leave as it is
     pub does-jsr : (low p : ℕ) → p < 65536 → sum16 p 1 ≡ n → isProtected c p ≡ true → at m₀ p ≡ high →
         Ruled (Jsr low) → Done (pushes 2) (u .s) k (ends c (perform (Jsr low) (withPc p u)) m)
-    unfolding rulesOf perform jsr ends _>>=_
+    unfolding perform jsr ends _>>=_
     does-jsr low p h on code to t =
         let s = g .registers .s in
         let s₁ : down 1 (u .s) < 256 = omega arith in
         let whole : address (p % 256) (p / 256) ≡ p = omega arith in
         let m₁ = set m (stack (u .s)) (p / 256) in
         let m₂ = set m₁ (stack (down 1 (u .s))) (p % 256) in
-        let image = pushed-image m₁ (down 1 (u .s)) (p % 256) s₁ (omega arith) (pushed-image m (u .s) (p / 256) s (omega arith) (g .image)) in
+        let image₁ = pushed-image m (u .s) (p / 256) s (omega arith) (g .image) in
+        let image = pushed-image m₁ (down 1 (u .s)) (p % 256) s₁ (omega arith) image₁ in
         let there = ap (address low) (image .code p code ∙ to) in
         rw (stack-open (u .s) s, stack-page (u .s) s, stack-open (down 1 (u .s)) s₁, stack-page (down 1 (u .s)) s₁)
         (record {
@@ -325,7 +330,8 @@ module _ (m₀ : List ℕ) (c : ℕ) (map : List ℕ) (ad : Admitted m₀ c map)
           next =
               record {
                 stands =
-                    calls map (ad .N) (u .s) (u .p .i) (u .pc) m k v few s (g .image .size) (p % 256) (p / 256) n (address low (at m₂ p)) (rw whole on)
+                    calls map (ad .N) (u .s) (u .p .i) (u .pc) m k v few s (g .image .size) (p % 256) (p / 256) n (address low (at m₂ p))
+                    (rw whole on)
                     (follows n (t .0)) (rw there (leads-to map _ routine 0 2 (mark .need) (t .1 .0)));
                 registers = let r = g .registers in record { a = r .a; x = r .x; y = r .y; s = omega arith };
                 image = image;
@@ -334,15 +340,15 @@ module _ (m₀ : List ℕ) (c : ℕ) (map : List ℕ) (ad : Admitted m₀ c map)
 
     -- an instruction that was fetched whole
     pub performs : (i : Instruction) (wide : Bool) (l h : ℕ) → gives wide l h i ≡ (l, h) → l < 256 → h < 256 → Ruled i → Does i
-    unfolding rulesOf perform
+    unfolding perform
     performs (Read o d) wide l h e b b′ t = does-read o d (small wide l h d e b b′) t
     performs (Store o d) wide l h e b b′ t = does-store o d (small wide l h d e b b′) t
     performs (Change o d) wide l h e b b′ t = does-change o d (small wide l h d e b b′) t
     performs (Accumulator o) wide l h e b b′ t = does-accumulator o t
     performs (Implied o) wide l h e b b′ t = does-implied o t
-    performs (AtStack Php) wide l h e b b′ t = does-push (byteOf4 (u .p)) (p-byte (u .p)) (leads-to map n (mark .kind) (mark .height + 1) 1 (mark .need) (t .0))
+    performs (AtStack Php) wide l h e b b′ t = does-push (byteOf4 (u .p)) (p-byte (u .p)) (t .0)
     performs (AtStack Plp) wide l h e b b′ t = absurd (false≢true (t .0))
-    performs (AtStack Pha) wide l h e b b′ t = does-push (u .a) (g .registers .a) (leads-to map n (mark .kind) (mark .height + 1) 1 (mark .need) (t .0))
+    performs (AtStack Pha) wide l h e b b′ t = does-push (u .a) (g .registers .a) (t .0)
     performs (AtStack Pla) wide l h e b b′ t = does-pla t
     performs (AtStack Rts) wide l h e b b′ t = does-rts t
     performs (AtStack Rti) wide l h e b b′ t = does-rti t

@@ -78,7 +78,8 @@ pub record Stored (map : List ℕ) (i : ℕ) (c : Cpu) (d : Mode) (r : Rules) : 
 
 module _ (map : List ℕ) (i : ℕ) where
   -- the rules of a record that are asked where one of its own holds
-  pub unbroken : (b : Bool) (e : Refusal) (r : Rules) → Hold (testsOf map i (if b then r else Broken e)) → (b ≡ true) × Hold (testsOf map i r)
+  pub unbroken : (b : Bool) (e : Refusal) (r : Rules) → Hold (testsOf map i (if b then r else Broken e)) →
+      (b ≡ true) × Hold (testsOf map i r)
   unbroken true e r t = (refl, t)
   unbroken false e r t = absurd (false≢true (t .0))
 

@@ -126,9 +126,9 @@ module _ (mark : Mark) where
   isAtZero kind = eqb (mark .kind) kind && eqb (mark .height) 0
 
   -- An instruction's own rules, in the order of their numbers: "not BRK, PLP, JMP (a), 81, 91" (13), stores (14), the five above (15), and
-  -- "Each successor (next address, branch or jump target; none for RTS, RTI)" (16). Of JSR's target the instruction holds the low byte alone.
+  -- "Each successor (next address, branch or jump target; none for RTS, RTI)" (16). Of its target a JSR holds the low byte alone.
   module _ (i next high : ℕ) where
-    unfoldable pub rulesOf : Instruction → Rules
+    abbrev pub rulesOf : Instruction → Rules
     rulesOf (Read o md) = one (goesOn next)
     rulesOf (Store o md) = stored i md (one (goesOn next))
     rulesOf (Change o md) = stored i md (one (goesOn next))

@@ -12,7 +12,8 @@ use Rattle.admission.proofs.judge.Statement.{statement}
 use Rattle.admission.proofs.judge.Tie as tie
 
 abbrev Inv-loop : tie.InvT-loop
-Inv-loop image c map n i verdict₀ count second left₀ successor₀ verdict left successor = Led map i second left₀ successor₀ left successor verdict
+Inv-loop image c map n i verdict₀ count second left₀ successor₀ verdict left successor =
+    Led map i second left₀ successor₀ left successor verdict
 
 abbrev μ-loop : tie.MeasureT-loop
 μ-loop image c map n i verdict₀ count second left₀ successor₀ verdict left successor = left
@@ -44,7 +45,9 @@ records-again c =
     record {
       within = omega arith;
       none = c .before .loop .inv .none;
-      same = comes-to (turn .records .inv) (at-rules .before .records-test .taken) _ tests ∙ all-led _ (c .before .loop .inv) (c .loop-test .left) _;
+      same =
+          comes-to (turn .records .inv) (at-rules .before .records-test .taken) _ tests
+          ∙ all-led _ (c .before .loop .inv) (c .loop-test .left) _;
     }
 
 returns : tie.Need-returns Inv-loop μ-loop Inv-records μ-records
@@ -66,9 +69,10 @@ returns-3 c =
     let turn = at-rules .before .before in
     let start = turn .before .before .before in
     let tests = ap (testsOf (now (start .args .map)) (turn .records .i)) (sym (at-rules .rules-at .ensures) ∙ at-count .count .given .1) in
+    let astray = sym (c .before .is-reached .ensures) ∙ not-true _ (c .if1 .taken) in
     sym
     (comes-to (turn .records .inv) (at-rules .before .records-test .taken) _ tests
-    ∙ leads-astray _ (at-loop .loop .inv) (c .before .before .loop-test .taken) (sym (c .before .is-reached .ensures) ∙ not-true _ (c .if1 .taken)) _)
+    ∙ leads-astray _ (at-loop .loop .inv) (c .before .before .loop-test .taken) astray _)
 
 pub judge-spec : {M : Type 1} → statement M
 judge-spec =

@@ -14,7 +14,8 @@ use Rattle.admission.specs.Maps.{Ascending, Found}
 pub ascends-first : (map : List ℕ) (i : ℕ) → i ≡ 0 → true ≡ ascends map i
 ascends-first map i e = rw e
 
-pub ascends-next : (map : List ℕ) (i : ℕ) → (i ≡ 0 → ⊥) → (m n : Mark) → m ≡ markAt map (i - 1) → n ≡ markAt map i → ltb (m .address) (n .address) ≡ ascends map i
+pub ascends-next : (map : List ℕ) (i : ℕ) → (i ≡ 0 → ⊥) → (m n : Mark) → m ≡ markAt map (i - 1) → n ≡ markAt map i →
+    ltb (m .address) (n .address) ≡ ascends map i
 ascends-next map zero h m n p q = absurd (h refl)
 ascends-next map (suc i) h m n p q = let e : suc i - 1 ≡ i = omega arith in rw (p, q, e)
 

@@ -7,29 +7,34 @@ use Rattle.admission.proofs.rules_at.Tie as tie
 
 returns : tie.Need-returns
 returns c =
-    let start = c .before .before .before .before in
-    unprotected (now (start .args .image)) (start .args .c) (now (start .args .map)) (start .args .i) _ (c .before .mark-at .ensures) (c .if1 .taken)
+    let a = c .before .before .before .before .args in
+    unprotected (now (a .image)) (a .c) (now (a .map)) (a .i) _ (c .before .mark-at .ensures) (c .if1 .taken)
 
 returns-2 : tie.Need-returns-2
 returns-2 c =
     let at-decode = c .before .before in
-    let at-if1 = at-decode .before .before .before .before in
-    let at-mark = at-if1 .before in
-    let start = at-mark .before .before .before in
-    let a = start .args in
-    too-long (now (a .image)) (a .c) (now (a .map)) (a .i) _ (at-mark .mark-at .ensures) (at-if1 .if1 .left) _ _ _ _
-    (λ j. omega (arith, at-decode .before .shared-slice-known3 .given j)) (at-decode .before .before .before .byte-after .ensures) (at-decode .before .before .byte-after2 .ensures) (at-decode .decode .ensures) (c .before .size-of .ensures) (c .if2 .taken)
+    let at-bytes = at-decode .before in
+    let at-second = at-bytes .before in
+    let at-first = at-second .before in
+    let at-mark = at-first .before .before in
+    let a = at-mark .before .before .before .args in
+    too-long (now (a .image)) (a .c) (now (a .map)) (a .i) _ (at-mark .mark-at .ensures) (at-first .before .if1 .left) _ _ _ _
+    (λ j. omega (arith, at-bytes .shared-slice-known3 .given j)) (at-first .byte-after .ensures) (at-second .byte-after2 .ensures)
+    (at-decode .decode .ensures) (c .before .size-of .ensures) (c .if2 .taken)
 
 returns-3 : tie.Need-returns-3
 returns-3 c =
     let at-size = c .before .before .before in
     let at-decode = at-size .before in
-    let at-if1 = at-decode .before .before .before .before in
-    let at-mark = at-if1 .before in
-    let start = at-mark .before .before .before in
-    let a = start .args in
-    its-own (now (a .image)) (a .c) (now (a .map)) (a .i) _ (at-mark .mark-at .ensures) (at-if1 .if1 .left) _ _ _ _
-    (λ j. omega (arith, at-decode .before .shared-slice-known3 .given j)) (at-decode .before .before .before .byte-after .ensures) (at-decode .before .before .byte-after2 .ensures) (at-decode .decode .ensures) (at-size .size-of .ensures) (c .before .before .if2 .left) _ _ (c .before .wrapping-add-u16 .ensures) (c .rules-for .ensures)
+    let at-bytes = at-decode .before in
+    let at-second = at-bytes .before in
+    let at-first = at-second .before in
+    let at-mark = at-first .before .before in
+    let a = at-mark .before .before .before .args in
+    its-own (now (a .image)) (a .c) (now (a .map)) (a .i) _ (at-mark .mark-at .ensures) (at-first .before .if1 .left) _ _ _ _
+    (λ j. omega (arith, at-bytes .shared-slice-known3 .given j)) (at-first .byte-after .ensures) (at-second .byte-after2 .ensures)
+    (at-decode .decode .ensures) (at-size .size-of .ensures) (c .before .before .if2 .left) _ _ (c .before .wrapping-add-u16 .ensures)
+    (c .rules-for .ensures)
 
 pub rules-at-spec : {M : Type 1} → statement M
 rules-at-spec =

@@ -32,7 +32,8 @@ vectors-hold-requires c κs =
     let at-fits = c .before .before .before in
     let a = at-fits .before .before .before .args in
     let fit = sym (at-fits .input-fits .ensures) ∙ not-false _ (c .before .before .if1 .left) in
-    (lengths-fit (now (a .image)) (a .c) (now (a .map)) fit .0, (ascending _ _ (c .before .first-malformed .ensures) (c .if2 .left)))
+    let up = ascending _ _ (c .before .first-malformed .ensures) (c .if2 .left) in
+    (lengths-fit (now (a .image)) (a .c) (now (a .map)) fit .0, up)
 
 returns-3 : tie.Need-returns-3
 returns-3 c =
@@ -49,7 +50,8 @@ judge-requires c κs =
     let at-fits = at-forms .before .before in
     let a = at-fits .before .before .before .args in
     let fit = sym (at-fits .input-fits .ensures) ∙ not-false _ (at-forms .before .if1 .left) in
-    (lengths-fit (now (a .image)) (a .c) (now (a .map)) fit, (ascending _ _ (at-forms .first-malformed .ensures) (c .before .before .if2 .left)))
+    let up = ascending _ _ (at-forms .first-malformed .ensures) (c .before .before .if2 .left) in
+    (lengths-fit (now (a .image)) (a .c) (now (a .map)) fit, up)
 
 returns-4 : tie.Need-returns-4
 returns-4 c =

@@ -7,7 +7,9 @@ returns : tie.Need-returns
 returns c = ascends-first _ _ (c .if1 .taken)
 
 returns-2 : tie.Need-returns-2
-returns-2 c = ascends-next _ _ (c .before .before .before .before .if1 .left) _ _ (c .before .before .before .mark-at .ensures) (c .before .before .mark-at2 .ensures)
+returns-2 c =
+    let at-mark = c .before .before .before in
+    ascends-next _ _ (at-mark .before .if1 .left) _ _ (at-mark .mark-at .ensures) (c .before .before .mark-at2 .ensures)
 
 pub ascends-spec : {M : Type 1} → statement M
 ascends-spec =

@@ -21,26 +21,33 @@ abbrev μ-loop : tie.MeasureT-loop
 μ-loop map address low₀ high₀ low high = high - low
 
 loop-holds : tie.Need-loop-holds Inv-loop μ-loop
-loop-holds c = record { order = omega arith; within = omega arith; below = λ k h. absurd (omega arith); above = λ k h l. absurd (omega arith) }
+loop-holds c =
+    record { order = omega arith; within = omega arith; below = λ k h. absurd (omega arith); above = λ k h l. absurd (omega arith) }
 
 loop-again : tie.Need-loop-again Inv-loop μ-loop
 loop-again c =
-    let at = c .before .before .before .before .loop in
+    let turn = c .before .before .before .before in
+    let start = turn .before .before in
+    let at = turn .loop in
+    let less = rw (c .before .before .mark-at .ensures) at (c .if1 .taken) in
     record {
       order = omega arith;
       within = at .inv .within;
-      below = λ k l. omega (arith, in-order _ (c .before .before .before .before .before .before .pre) k ((at .low + at .high) / 2) (omega arith) (omega arith), rw (c .before .before .mark-at .ensures) at (c .if1 .taken));
+      below = λ k l. omega (arith, in-order _ (start .pre) k ((at .low + at .high) / 2) (omega arith) (omega arith), less);
       above = at .inv .above;
     }
 
 loop-again-2 : tie.Need-loop-again-2 Inv-loop μ-loop
 loop-again-2 c =
-    let b = c .before .before .before .before .loop .inv in
+    let turn = c .before .before .before .before in
+    let start = turn .before .before in
+    let b = turn .loop .inv in
+    let not-less = rw (c .before .before .mark-at .ensures) at (c .if1 .left) in
     record {
       order = omega arith;
       within = omega arith;
       below = b .below;
-      above = λ k l n. omega (arith, in-order _ (c .before .before .before .before .before .before .pre) _ k l n, rw (c .before .before .mark-at .ensures) at (c .if1 .left));
+      above = λ k l n. omega (arith, in-order _ (start .pre) _ k l n, not-less);
     }
 
 returns : tie.Need-returns Inv-loop μ-loop

@@ -24,13 +24,18 @@ loop-holds : tie.Need-loop-holds Inv-loop μ-loop
 loop-holds c = record { within = omega arith; before = λ k h. absurd (omega arith) }
 
 returns : tie.Need-returns Inv-loop μ-loop
-returns c = record { within = omega arith; before = c .before .before .before .loop .inv .before; bad = λ h. sym (c .before .is-formed .ensures) ∙ not-true _ (c .if1 .taken) }
+returns c =
+    let before = c .before .before .before .loop .inv .before in
+    record { within = omega arith; before = before; bad = λ h. sym (c .before .is-formed .ensures) ∙ not-true _ (c .if1 .taken) }
 
 loop-again : tie.Need-loop-again Inv-loop μ-loop
-loop-again c = record { within = omega arith; before = below-more _ _ (c .before .before .before .loop .inv .before) (sym (c .before .is-formed .ensures) ∙ not-false _ (c .if1 .left)) }
+loop-again c =
+    let before = c .before .before .before .loop .inv .before in
+    record { within = omega arith; before = below-more _ _ before (sym (c .before .is-formed .ensures) ∙ not-false _ (c .if1 .left)) }
 
 returns-2 : tie.Need-returns-2 Inv-loop μ-loop
-returns-2 c = record { within = omega arith; before = λ k h. c .before .loop .inv .before k (omega arith); bad = λ h. absurd (omega arith) }
+returns-2 c =
+    record { within = omega arith; before = λ k h. c .before .loop .inv .before k (omega arith); bad = λ h. absurd (omega arith) }
 
 pub first-malformed-spec : {M : Type 1} → statement M
 first-malformed-spec =
