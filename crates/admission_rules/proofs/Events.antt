@@ -15,7 +15,9 @@ use Rattle.rules.specs.Cycles.{_>>=_}
 use Rattle.rules.specs.Flags.{byteOf}
 use Rattle.rules.specs.Opcodes.{Entry, undefined, alone, byte, word, late, sizeOf, isDefined, instructionOf, decode}
 use Rattle.rules.specs.Operations.{stack, down, withPc, enter, perform, instruction}
-use Rattle.rules.specs.Interrupts.{resOf, nmiOf, irqOf, Event, res, nmi, irq, execute, eventOf, interrupt, reset, cyclesOf}
+use Rattle.rules.specs.declared.Event.{Event}
+use Rattle.rules.specs.declared.Event.the-variants.{Res, Nmi, Irq, Execute}
+use Rattle.rules.specs.Interrupts.{resOf, nmiOf, irqOf, eventOf, interrupt, reset, cyclesOf}
 use Rattle.rules.specs.Bus.{isProtected}
 use Rattle.admission_rules.specs.Admission.{markAt, marksIn, testsOf, rulesOf, rulesAt}
 use Rattle.admission_rules.specs.Safety.{Stacked, Effect, none, clears, pushes, effectOf, effectAt, Unaltered}
@@ -205,11 +207,11 @@ module _ (m₀ : List ℕ) (c : ℕ) (map : List ℕ) (ad : Admitted m₀ c map)
 
   -- a step that takes the event e, where k bytes were on the stack
   pub record Well (e : Event) (u : Cpu) (m : List ℕ) (k : Stacked) : Type 0 where
-    pub defined : e ≡ execute → isDefined (decode (at m (u .pc))) ≡ true
-    pub named : e ≡ execute → (i : ℕ) × (i < marksIn map) × (markAt map i .address ≡ u .pc)
+    pub defined : e ≡ Execute → isDefined (decode (at m (u .pc))) ≡ true
+    pub named : e ≡ Execute → (i : ℕ) × (i < marksIn map) × (markAt map i .address ≡ u .pc)
     pub done : Done m₀ c map ad (effectAt e (effectHere u m)) (u .s) k (ends c (cyclesOf e u) m)
 
-  pub well-reset : (u : Cpu) (m : List ℕ) (k : Stacked) → Bytes u → Image m₀ c map ad m → Well res u m k
+  pub well-reset : (u : Cpu) (m : List ℕ) (k : Stacked) → Bytes u → Image m₀ c map ad m → Well Res u m k
   unfolding cyclesOf
   well-reset u m k r i =
       record {
@@ -223,14 +225,14 @@ module _ (m₀ : List ℕ) (c : ℕ) (map : List ℕ) (ad : Admitted m₀ c map)
   unfolding eventOf cyclesOf
   well u m k g lines last quiet = go (resOf lines) (nmiOf lines) quiet (irqOf lines) (u .p .i) refl
     where
-      runs : Well execute u m k
+      runs : Well Execute u m k
       runs =
           let x = executes u m k g in
           let s = g .stands in
           record { defined = λ e. x .defined; named = λ e. (s .i, s .goes .within, s .address); done = x .done }
 
       go : (r n : Bool) → n ≡ false → (q i : Bool) → u .p .i ≡ i →
-          Well (if r then res else if n && not last then nmi else if q && not i then irq else execute) u m k
+          Well (if r then Res else if n && not last then Nmi else if q && not i then Irq else Execute) u m k
       go true n z q i e = well-reset u m k (g .registers) (g .image)
       go false true z q i e = absurd (false≢true (sym z))
       go false false z true false e =

@@ -13,7 +13,9 @@ use Rattle.rules.specs.declared.StepAnswer.the-variants.{Stepped}
 use Rattle.rules.specs.Basics.{at}
 use Rattle.rules.specs.Cycles.{execution, Ran}
 use Rattle.rules.specs.Opcodes.{decode, isDefined}
-use Rattle.rules.specs.Interrupts.{resOf, Event, res, nmi, irq, execute, eventOf, cyclesOf}
+use Rattle.rules.specs.declared.Event.{Event}
+use Rattle.rules.specs.declared.Event.the-variants.{Res, Nmi, Irq, Execute}
+use Rattle.rules.specs.Interrupts.{resOf, eventOf, cyclesOf}
 use Rattle.rules.specs.Bus.{resetBus, images, World}
 use Rattle.rules.specs.Record.{stateOf, recordOf, wellFormed}
 use Rattle.rules.specs.Step.{Outcome, busAt, ranOf, stateAfter, finished, opcodeOf, canStep, refused, stepTests, step}
@@ -48,17 +50,17 @@ register-bytes c r x = record { a = x .bytes 1; x = x .bytes 2; y = x .bytes 3; 
 
 bus-part : (e : Event) (b : Bus) → busAt e b .part ≡ b .part
 unfolding resetBus
-bus-part res b = refl
-bus-part nmi b = refl
-bus-part irq b = refl
-bus-part execute b = refl
+bus-part Res b = refl
+bus-part Nmi b = refl
+bus-part Irq b = refl
+bus-part Execute b = refl
 
 bus-protected : (e : Event) (b : Bus) → busAt e b .protected ≡ b .protected
 unfolding resetBus
-bus-protected res b = refl
-bus-protected nmi b = refl
-bus-protected irq b = refl
-bus-protected execute b = refl
+bus-protected Res b = refl
+bus-protected Nmi b = refl
+bus-protected Irq b = refl
+bus-protected Execute b = refl
 
 module _ (m₀ : List ℕ) (c : ℕ) (map : List ℕ) (ad : Admitted m₀ c map) where
   -- what a step o with this effect leaves, from S on and with k bytes on the stack
@@ -106,11 +108,11 @@ module _ (m₀ : List ℕ) (c : ℕ) (map : List ℕ) (ad : Admitted m₀ c map)
     effect-is : effect r g ≡ effectAt e (effectHere m₀ c map ad (u .cpu) (g .image))
     effect-is = rw opcode-is
 
-    can : (d : Event) → (d ≡ execute → isDefined (decode (at (g .image) (u .cpu .pc))) ≡ true) → canStep images d u (g .image) ≡ true
-    can res h = refl
-    can nmi h = refl
-    can irq h = refl
-    can execute h = rw opcode-is (h refl)
+    can : (d : Event) → (d ≡ Execute → isDefined (decode (at (g .image) (u .cpu .pc))) ≡ true) → canStep images d u (g .image) ≡ true
+    can Res h = refl
+    can Nmi h = refl
+    can Irq h = refl
+    can Execute h = rw opcode-is (h refl)
 
     module _ (w : Well m₀ c map ad e (u .cpu) (g .image) k) where
       holds : Hold (stepTests images r (g .image) (g .lines) (g .pins) (g .buffer))
@@ -163,7 +165,7 @@ module _ (m₀ : List ℕ) (c : ℕ) (map : List ℕ) (ad : Admitted m₀ c map)
       let w = well m₀ c map ad (cpuIn r) (g .image) k now (g .lines) (stateIn r g .nmi) (p .quiet) in
       (fine r g k six size p w, steps gs _ _ _ (again r g k six size p w) (after-step r g k six size p w .ready))
 
-  pub res-first : (lines : ℕ) (last : Bool) (v : Cpu) → resOf lines ≡ true → eventOf lines last v ≡ res
+  pub res-first : (lines : ℕ) (last : Bool) (v : Cpu) → resOf lines ≡ true → eventOf lines last v ≡ Res
   unfolding eventOf
   res-first lines last v h = rw h
 

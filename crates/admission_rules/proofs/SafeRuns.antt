@@ -9,7 +9,7 @@ use lib.Seq.{length-take-le}
 use Rattle.rules.specs.declared.StepAnswer.{StepAnswer}
 use Rattle.rules.specs.declared.RunAnswer.the-variants.{Played}
 use Rattle.rules.specs.declared.Verdict.the-variants.{Accepted}
-use Rattle.rules.specs.Interrupts.{Event}
+use Rattle.rules.specs.declared.Event.{Event}
 use Rattle.rules.specs.Bus.{images}
 use Rattle.rules.specs.Record.{stateOf}
 use Rattle.rules.specs.Step.{Outcome}

@@ -16,7 +16,9 @@ use Rattle.rules.specs.declared.Verdict.the-variants.{Accepted}
 use Rattle.rules.specs.Basics.{if_then_else_, at, address, sum16}
 use Rattle.rules.specs.Opcodes.{decode, instructionOf}
 use Rattle.rules.specs.Operations.{stack, down}
-use Rattle.rules.specs.Interrupts.{resOf, nmiOf, Event, res, nmi, irq, execute}
+use Rattle.rules.specs.declared.Event.{Event}
+use Rattle.rules.specs.declared.Event.the-variants.{Res, Nmi, Irq, Execute}
+use Rattle.rules.specs.Interrupts.{resOf, nmiOf}
 use Rattle.rules.specs.Bus.{images, isProtected}
 use Rattle.rules.specs.Record.{wellFormed}
 use Rattle.rules.specs.Step.{Outcome, step, stateNow, eventNow, opcodeOf}
@@ -57,10 +59,10 @@ effectOf Undefined = none
 
 -- of a step whose instruction, where it executes one, has the effect e
 abbrev pub effectAt : Event → Effect → Effect
-effectAt res e = clears
-effectAt nmi e = none
-effectAt irq e = pushes 3
-effectAt execute e = e
+effectAt Res e = clears
+effectAt Nmi e = none
+effectAt Irq e = pushes 3
+effectAt Execute e = e
 
 abbrev pub stackedAfter : Effect → Stacked → Stacked
 stackedAfter none k = k
@@ -129,7 +131,7 @@ module _ (r : List ℕ) (g : Given) where
     pub accesses : ℕ
     pub answered : outcome .answer ≡ Stepped accesses
     -- the map names the instruction that it runs
-    pub named : eventIn ≡ execute → (i : ℕ) × (i < marksIn map) × (markAt map i .address ≡ stateIn .cpu .pc)
+    pub named : eventIn ≡ Execute → (i : ℕ) × (i < marksIn map) × (markAt map i .address ≡ stateIn .cpu .pc)
     -- it writes the stack page only by its pushes
     pub only : stackWrites accesses (outcome .accesses) ≡ pushesOf effect (stateIn .cpu .s)
     -- it leaves 0 to 256 bytes on the stack
