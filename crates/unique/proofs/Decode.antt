@@ -1,7 +1,7 @@
--- An entry and two bytes are one instruction.
+-- An opcode and two bytes are one instruction.
 use mathlib.Core.Path.{refl}
 use Rattle.decode.proofs as its
 use Rattle.unique.proofs.General.{Unique, answer}
 
-pub instruction-of : Unique its.instruction_of.Kinds.ps its.instruction_of.Kinds.r its.instruction_of.Reads.Post
-instruction-of κs a x y = answer refl
+pub decode : Unique its.decode.Kinds.ps its.decode.Kinds.r its.decode.Reads.Post
+decode κs a x y = answer refl

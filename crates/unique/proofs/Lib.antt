@@ -25,7 +25,6 @@ pub mod Sequence
 pub mod Stacking
 pub mod State
 pub mod Step
-pub mod Table
 pub mod Text
 pub mod Wiring
 pub mod Words

@@ -1,7 +1,8 @@
 -- What the relations of bus say of an exit is a function of the entry.
-use Prim.Native.Nat.{ℕ, _+_, _*_}
+use Prim.Native.Nat.{ℕ, _+_, _*_, _/_}
 use native.Mathlib.Omega.{arith}
-use mathlib.Core.Path.{_≡_, sym, ap, _∙_}
+use mathlib.Core.Path.{_≡_, refl, sym, ap, _∙_}
+use mathlib.Core.Bool.{Bool, true, false}
 use mathlib.Core.List.{List}
 use lib.ListN.{length}
 use lib.Seq.{sets}
@@ -11,11 +12,13 @@ use Rattle.rules.specs.declared.State.{State}
 use Rattle.rules.specs.Cycles.{Bank, Cycles, Ran, run}
 use Rattle.rules.specs.Bus.{World, world, images, board, listOf}
 use Rattle.rules.specs.Record.{recordOf}
-use Rattle.rules.specs.Step.{Outcome}
+use Rattle.rules.specs.Opcodes.{decode, isDefined}
+use Rattle.rules.specs.Step.{Outcome, opcodeOf}
 use Rattle.wiring.specs.declared.Wiring.{Wiring}
 use Rattle.laws.specs.Goes.{Goes, Writes, Does}
 use Rattle.laws.specs.States.{moved}
-use Rattle.wiring.specs.Wiring.{Wired}
+use Rattle.wiring.specs.Wiring.{Banked, banked, Wired}
+use Rattle.processor.specs.Executed.{Executed}
 use Rattle.step.specs.Parts.{left}
 
 -- what `Goes` says of an exit
@@ -52,17 +55,31 @@ pub writes : {κ : Bank} {p v k : ℕ} {s : State} {i l r′ i′ l′ r″ i″
     Writes κ p v k s i l r′ i′ l′ → Writes κ p v k s i l r″ i″ l″ → left {A = Unit {0}} tt r′ i′ l′ ≡ left tt r″ i″ l″
 writes d e j = let o = goes (d .goes) (e .goes) j in left tt ((d .bytes ∙ sym (e .bytes)) j) (o .image) (o .list)
 
+-- the banks tell the length
+banked-once : {n m : ℕ} → Banked n → Banked m → n / 65536 ≡ m / 65536 → n ≡ m
+banked-once (banked j p) (banked k q) e = omega (arith, p, q, e)
+
 pub wired : {κ : Bank} {u : Bus} {w w′ : Wiring} → Wired κ w u → Wired κ w′ u → w ≡ w′
 wired {w = w} {w′ = w′} d e j =
-    let top : w .top ≡ w′ .top = omega (arith, d .top, e .top) in
     record {
-      pins = (d .pins ∙ sym (e .pins)) j;
-      banks = (d .banks ∙ sym (e .banks)) j;
-      bank = (d .bank ∙ sym (e .bank)) j;
-      plain = (d .plain ∙ sym (e .plain)) j;
-      top = top j;
       base = (d .base ∙ sym (e .base)) j;
+      size = banked-once (d .banked) (e .banked) (sym (d .banks) ∙ e .banks) j;
+      plain = (d .plain ∙ sym (e .plain)) j;
+      bank = (d .bank ∙ sym (e .bank)) j;
+      pins = (d .pins ∙ sym (e .pins)) j;
     }
+
+-- an instruction is executed in one way, or refused
+pub executed : {s : State} {i l : List ℕ} {n m : ℕ} {r′ i′ l′ r″ i″ l″ : List ℕ} →
+    Executed s i l n r′ i′ l′ → Executed s i l m r″ i″ l″ → left n r′ i′ l′ ≡ left m r″ i″ l″
+executed {s} {i} {n = n} {m = m} {r′ = r′} {i′ = i′} {l′ = l′} {r″ = r″} {i″ = i″} {l″ = l″} d e = go (isDefined (decode (opcodeOf images s i))) refl
+  where
+    go : (b : Bool) → isDefined (decode (opcodeOf images s i)) ≡ b → left n r′ i′ l′ ≡ left m r″ i″ l″
+    go true h = does (d .does h .1) (e .does h .1)
+    go false h =
+        let p = d .refuses h in
+        let q = e .refuses h in
+        λ j. left ((p .0 ∙ sym (q .0)) j) ((p .1 ∙ sym (q .1)) j) ((p .2 ∙ sym (q .2)) j) ((p .3 ∙ sym (q .3)) j)
 
 -- what is left where the image is not written, and where it is and the record is the second parameter
 abbrev pub pulled : Outcome ℕ (List ℕ) → Unit {0} × (List ℕ × (Unit {0} × (Unit {0} × (List ℕ × Unit {0}))))

@@ -4,7 +4,7 @@ use denote.Ref.{now}
 use Rattle.rules.specs.declared.State.{State}
 use Rattle.rules.specs.Cycles.{execution}
 use Rattle.wiring.specs.Wiring.{Stands}
-use Rattle.step.specs.Parts.{Begins}
+use Rattle.processor.specs.Executed.{Begins}
 use Rattle.wiring.proofs as its
 use Rattle.unique.proofs.General.{UniqueWhere, answer}
 use Rattle.unique.proofs.Relations.{wired}
@@ -13,7 +13,7 @@ pub wire : (s : State) → UniqueWhere its.wire.Kinds.ps its.wire.Kinds.r (λ κ
 wire s κs a h x y p q =
     answer
     refl
-    (wired (p .1 s (h .bytes) (h .sound) (h .pins) (h .banks) .wired) (q .1 s (h .bytes) (h .sound) (h .pins) (h .banks) .wired))
+    (wired (p .1 s (h .bytes) (h .sound) (h .banked) (h .pins) (h .banks) .wired) (q .1 s (h .bytes) (h .sound) (h .banked) (h .pins) (h .banks) .wired))
     refl
 
 pub indirect : (s : State) →
