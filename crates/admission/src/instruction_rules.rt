@@ -183,7 +183,7 @@ fn returned(m: Mark, kind: u8, next: u16, i: u16) -> Rules
 
 // The rules of what is done at the stack.
 fn rules_for_stacking(o: Stacking, m: Mark, next: u16, i: u16) -> Rules
-    ensures { λ r. ⌜ ((high : ℕ) → r ≡ rulesOf m i next high (AtStack o)) ⌝ }
+    ensures { λ r. ⌜ ((second : ℕ) → r ≡ rulesOf m i next second (AtStack o)) ⌝ }
 {
     match o {
         Stacking::Php => one(goes_up(m, next)),
@@ -195,9 +195,9 @@ fn rules_for_stacking(o: Stacking, m: Mark, next: u16, i: u16) -> Rules
     }
 }
 
-// The rules of an instruction at a record. `next` is the next address, `high` the second byte after the opcode.
-pub(crate) fn rules_for(instruction: Instruction, high: u8, m: Mark, next: u16, i: u16) -> Rules
-    ensures { λ r. ⌜ r ≡ rulesOf m i next high instruction ⌝ }
+// The rules of an instruction at a record. `next` is the next address, `second` the second byte after the opcode.
+pub(crate) fn rules_for(instruction: Instruction, second: u8, m: Mark, next: u16, i: u16) -> Rules
+    ensures { λ r. ⌜ r ≡ rulesOf m i next second instruction ⌝ }
 {
     let next_one = goes_on(m, next);
     let on = one(next_one);
@@ -209,9 +209,9 @@ pub(crate) fn rules_for(instruction: Instruction, high: u8, m: Mark, next: u16, 
         Instruction::Implied(o) => on,
         Instruction::AtStack(o) => rules_for_stacking(o, m, next, i),
         Instruction::Branch(t, o) => Rules::Leads(2, next_one, goes_on(m, bytes::target(next, o))),
-        Instruction::Jump(low, second) => one(goes_on(m, bytes::join(low, second))),
-        Instruction::JumpIndirect(low, second) => Rules::Broken(Refusal::Place(i)),
-        Instruction::Jsr(low) => Rules::Leads(2, next_one, calls(m, bytes::join(low, high))),
+        Instruction::Jump(low, high) => one(goes_on(m, bytes::join(low, high))),
+        Instruction::JumpIndirect(low, high) => Rules::Broken(Refusal::Place(i)),
+        Instruction::Jsr(low) => Rules::Leads(2, next_one, calls(m, bytes::join(low, second))),
         Instruction::Brk => Rules::Broken(Refusal::Place(i)),
         Instruction::Txs => unless(is_at_zero(m, marks::MAIN), Refusal::Stack(i), on),
         Instruction::Cli => unless(m.kind == marks::MAIN, Refusal::Stack(i), on),

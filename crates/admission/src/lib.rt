@@ -18,12 +18,12 @@ ghost use Rattle.admission_rules.specs.Admission.{marksIn, inputFits, vectorsHo
 ghost use Rattle.admission_rules.specs.Safety.{Safe, PlaysOut};
 ghost use Rattle.admission.specs.Maps.{Ascending};
 
-// Whether a successor is marked as is asked.
-fn is_reached(map: &[u8], s: Successor) -> bool
+// Whether a successor is marked as is asked, likely by this record.
+fn is_reached(map: &[u8], s: Successor, likely: usize) -> bool
     requires { ⌜ Ascending (now map) ⌝ }
     ensures { λ r. ⌜ r ≡ reached (now (map .entry)) s ⌝ }
 {
-    marks::need_at(map, s.address, s.kind, s.height) + s.more as usize <= s.limit as usize
+    marks::need_at(map, s.address, s.kind, s.height, likely) + s.more as usize <= s.limit as usize
 }
 
 // Address sums wrap.
@@ -46,8 +46,8 @@ fn vectors_hold(image: &[u8], map: &[u8]) -> bool
     requires { ⌜ (length (now image) ≡ 65536) × Ascending (now map) ⌝ }
     ensures { λ r. ⌜ ((c : ℕ) → r ≡ vectorsHold images (now (image .entry)) c (now (map .entry))) ⌝ }
 {
-    let main = marks::need_at(map, word_at(image, 0xFFFC), marks::MAIN, 0);
-    let handler = marks::need_at(map, word_at(image, 0xFFFE), marks::HANDLER, 0);
+    let main = marks::need_at(map, word_at(image, 0xFFFC), marks::MAIN, 0, 0);
+    let handler = marks::need_at(map, word_at(image, 0xFFFE), marks::HANDLER, 0, 0);
     main + handler + 3 <= 256
 }
 
@@ -92,7 +92,7 @@ fn judge(image: &[u8], c: u8, map: &[u8]) -> Verdict
                 let mut left = count;
                 let mut successor = first;
                 while left > 0 {
-                    if !is_reached(map, successor) {
+                    if !is_reached(map, successor, i + 1) {
                         verdict = Verdict::Barred(Refusal::Successor(i as u16));
                         break 'records;
                     }

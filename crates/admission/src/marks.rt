@@ -83,7 +83,7 @@ pub(crate) fn first_malformed(map: &[u8]) -> usize
 }
 
 // The first record whose address is not below this one, by halving; where there is none, how many there are.
-fn find(map: &[u8], address: u16) -> usize
+fn halve(map: &[u8], address: u16) -> usize
     requires { ⌜ Ascending (now map) ⌝ }
     ensures { λ r. ⌜ Found (now (map .entry)) address r ⌝ }
 {
@@ -101,6 +101,20 @@ fn find(map: &[u8], address: u16) -> usize
     low
 }
 
+// The same, where it is likely to be this record.
+fn find(map: &[u8], address: u16, likely: usize) -> usize
+    requires { ⌜ Ascending (now map) ⌝ }
+    ensures { λ r. ⌜ Found (now (map .entry)) address r ⌝ }
+{
+    if likely < map.len() / 8 {
+        let m = mark_at(map, likely);
+        if m.address == address {
+            return likely;
+        }
+    }
+    halve(map, address)
+}
+
 fn is_mark(m: Mark, address: u16, kind: u8, height: u16) -> bool
     ensures { λ r. ⌜ r ≡ isMark address kind height m ⌝ }
 {
@@ -113,12 +127,12 @@ fn is_mark(m: Mark, address: u16, kind: u8, height: u16) -> bool
     m.height as u16 == height
 }
 
-// The need of the record with this address, kind and height; where there is none, NONE.
-pub(crate) fn need_at(map: &[u8], address: u16, kind: u8, height: u16) -> usize
+// The need of the record with this address, kind and height, which is likely to be this record; where there is none, NONE.
+pub(crate) fn need_at(map: &[u8], address: u16, kind: u8, height: u16, likely: usize) -> usize
     requires { ⌜ Ascending (now map) ⌝ }
     ensures { λ r. ⌜ NeedAt (now (map .entry)) address kind height r ⌝ }
 {
-    let i = find(map, address);
+    let i = find(map, address, likely);
     if i == map.len() / 8 {
         return NONE;
     }

@@ -126,8 +126,9 @@ module _ (mark : Mark) where
   isAtZero kind = eqb (mark .kind) kind && eqb (mark .height) 0
 
   -- An instruction's own rules, in the order of their numbers: "not BRK, PLP, JMP (a), 81, 91" (13), stores (14), the five above (15), and
-  -- "Each successor (next address, branch or jump target; none for RTS, RTI)" (16). Of its target a JSR holds the low byte alone.
-  module _ (i next high : ℕ) where
+  -- "Each successor (next address, branch or jump target; none for RTS, RTI)" (16). Of its target a JSR holds the low byte alone: the high
+  -- one is the second byte after the opcode.
+  module _ (i next second : ℕ) where
     abbrev pub rulesOf : Instruction → Rules
     rulesOf (Read o md) = one (goesOn next)
     rulesOf (Store o md) = stored i md (one (goesOn next))
@@ -141,9 +142,9 @@ module _ (mark : Mark) where
     rulesOf (AtStack Rts) = if isAtZero routine then Leads 0 (goesOn next) (goesOn next) else Broken (Stack i)
     rulesOf (AtStack Rti) = if isAtZero handler then Leads 0 (goesOn next) (goesOn next) else Broken (Stack i)
     rulesOf (Branch t o) = Leads 2 (goesOn next) (goesOn (target next o))
-    rulesOf (Jump low high′) = one (goesOn (address low high′))
-    rulesOf (JumpIndirect low high′) = Broken (Place i)
-    rulesOf (Jsr low) = Leads 2 (goesOn next) (calls (address low high))
+    rulesOf (Jump low high) = one (goesOn (address low high))
+    rulesOf (JumpIndirect low high) = Broken (Place i)
+    rulesOf (Jsr low) = Leads 2 (goesOn next) (calls (address low second))
     rulesOf Brk = Broken (Place i)
     rulesOf Txs = if isAtZero main then one (goesOn next) else Broken (Stack i)
     rulesOf Cli = if eqb (mark .kind) main then one (goesOn next) else Broken (Stack i)

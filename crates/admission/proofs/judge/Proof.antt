@@ -87,6 +87,7 @@ judge-spec =
     (λ c. search needs)
     (λ c. search needs)
     loop-holds
+    (λ c. search needs)
     (λ c κs. search needs)
     (λ c. search needs)
     (λ c. search needs)

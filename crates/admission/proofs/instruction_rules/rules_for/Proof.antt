@@ -31,7 +31,7 @@ returns-6 : tie.Need-returns-6
 returns-6 c =
     let at-match = c .before .before .before in
     let start = at-match .before .before .before in
-    rw (c .before .before .instruction6 .given .1) (c .rules-for-stacking .ensures (start .args .high))
+    rw (c .before .before .instruction6 .given .1) (c .rules-for-stacking .ensures (start .args .second))
 
 returns-7 : tie.Need-returns-7
 returns-7 c =
