@@ -10,6 +10,7 @@ use lib.ListN.{length, set}
 use Rattle.rules.specs.declared.Cpu.{Cpu}
 use Rattle.rules.specs.declared.Instruction.{Instruction}
 use Rattle.rules.specs.declared.Instruction.the-variants.{Brk, Jsr}
+use Rattle.rules.specs.declared.Refusal.the-variants.{Place}
 use Rattle.rules.specs.Basics.{if_then_else_, at, address, sum16}
 use Rattle.rules.specs.Cycles.{_>>=_}
 use Rattle.rules.specs.Flags.{byteOf}
@@ -19,6 +20,7 @@ use Rattle.rules.specs.declared.Event.{Event}
 use Rattle.rules.specs.declared.Event.the-variants.{Res, Nmi, Irq, Execute}
 use Rattle.rules.specs.Interrupts.{resOf, nmiOf, irqOf, eventOf, interrupt, reset, cyclesOf}
 use Rattle.rules.specs.Bus.{isProtected}
+use Rattle.admission_rules.specs.declared.Rules.{Rules}
 use Rattle.admission_rules.specs.Admission.{markAt, marksIn, testsOf, rulesOf, rulesAt}
 use Rattle.admission_rules.specs.Safety.{Stacked, Effect, none, clears, pushes, effectOf, effectAt, Unaltered}
 use Rattle.laws.proofs.Tests.{Hold, and-left, and-right}
@@ -65,9 +67,16 @@ module _ (m₀ : List ℕ) (c : ℕ) (map : List ℕ) (ad : Admitted m₀ c map)
     abbrev a : ℕ
     a = markAt map (s .i) .address
 
-    -- the rules of its record hold of the instruction i
+    -- the rules of its record for the instruction x; that they hold
+    abbrev rulesHere : Instruction → Rules
+    rulesHere x = rulesOf (markAt map (s .i)) (s .i) (n m₀ c map ad u m k g) (at m₀ (sum16 a 2)) x
+
     abbrev Ruled : Instruction → Type 0
-    Ruled i = Hold (testsOf map (s .i) (rulesOf (markAt map (s .i)) (s .i) (n m₀ c map ad u m k g) (at m₀ (sum16 a 2)) i))
+    Ruled x = Hold (testsOf map (s .i) (rulesHere x))
+
+    -- what was admitted there
+    abbrev admittedHere : Instruction
+    admittedHere = instructionOf (decode (at m₀ a)) (at m₀ (sum16 a 1)) (at m₀ (sum16 a 2))
 
     pub record Executes : Type 0 where
       pub defined : isDefined (decode (at m (u .pc))) ≡ true
@@ -113,13 +122,14 @@ module _ (m₀ : List ℕ) (c : ℕ) (map : List ℕ) (ad : Admitted m₀ c map)
     record Kept : Type 0 where
       protected : isProtected c a ≡ true
       fits : leb (a + sizeOf (decode (at m₀ a))) 65536 ≡ true
-      ruled : Ruled (instructionOf (decode (at m₀ a)) (at m₀ (sum16 a 1)) (at m₀ (sum16 a 2)))
+      ruled : Ruled admittedHere
 
     kept : Kept
     unfolding rulesAt
     kept =
         let fits = leb (a + sizeOf (decode (at m₀ a))) 65536 in
-        let t = unbroken map (s .i) (isProtected c a && fits) _ _ (ad .rules (s .i) (s .goes .within)) in
+        let its = ad .rules (s .i) (s .goes .within) in
+        let t = unbroken map (s .i) (isProtected c a && fits) (Place (s .i)) (rulesHere admittedHere) its in
         record { protected = and-left _ _ (t .0); fits = and-right (isProtected c a) _ (t .0); ruled = t .1 }
 
     pub executes : Executes

@@ -11,7 +11,7 @@ use Rattle.rules.specs.declared.Cpu.{Cpu}
 use Rattle.rules.specs.declared.Mode.{Mode}
 use Rattle.rules.specs.declared.Mode.the-variants.{Immediate, Zero, ZeroX, ZeroY, Absolute, AbsoluteX, AbsoluteY, IndirectX, IndirectY, IndirectBankY}
 use Rattle.rules.specs.declared.Refusal.{Refusal}
-use Rattle.rules.specs.declared.Refusal.the-variants.{StoreAddress}
+use Rattle.rules.specs.declared.Refusal.the-variants.{Place, StoreAddress}
 use Rattle.rules.specs.Basics.{if_then_else_, address, sum16}
 use Rattle.rules.specs.Cycles.{Bank, execution, indirect, _>>=_}
 use Rattle.rules.specs.Addressing.{load, place, pointer, zeroIndexed, indexed, crosses, loadIndexed}
@@ -77,11 +77,14 @@ pub record Stored (map : List ℕ) (i : ℕ) (c : Cpu) (d : Mode) (r : Rules) : 
   pub rest : Hold (testsOf map i r)
 
 module _ (map : List ℕ) (i : ℕ) where
+  broken : (e : Refusal) → Hold (testsOf map i (Broken e)) → ⊥
+  broken e t = false≢true (t .0)
+
   -- the rules of a record that are asked where one of its own holds
   pub unbroken : (b : Bool) (e : Refusal) (r : Rules) → Hold (testsOf map i (if b then r else Broken e)) →
       (b ≡ true) × Hold (testsOf map i r)
   unbroken true e r t = (refl, t)
-  unbroken false e r t = absurd (false≢true (t .0))
+  unbroken false e r t = absurd (broken e t)
 
   pub place-calm : (c : Cpu) (d : Mode) (r : Rules) → Bytes c → Small d → Hold (testsOf map i (stored i d r)) → Stored map i c d r
   unfolding place zeroIndexed pointer indexed _>>=_
@@ -98,6 +101,6 @@ module _ (map : List ℕ) (i : ℕ) where
   place-calm c (AbsoluteY low high) r b h t =
       let u = unbroken (outside 0x0001 (address low high)) (StoreAddress i) r t in
       record { calm = λ v o. base-off (address low high) (c .y) h (b .y) (u .0); rest = u .1 }
-  place-calm c (IndirectX z) r b h t = absurd (false≢true (t .0))
-  place-calm c (IndirectY z) r b h t = absurd (false≢true (t .0))
-  place-calm c (IndirectBankY z) r b h t = absurd (false≢true (t .0))
+  place-calm c (IndirectX z) r b h t = absurd (broken (Place i) t)
+  place-calm c (IndirectY z) r b h t = absurd (broken (Place i) t)
+  place-calm c (IndirectBankY z) r b h t = absurd (broken (Place i) t)
