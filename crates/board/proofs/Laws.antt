@@ -13,15 +13,10 @@ use Rattle.rules.specs.Answers.{stepWord}
 use Rattle.rules.specs.Bus.{images}
 use Rattle.rules.specs.Step.{Outcome, step}
 use Rattle.laws.proofs.Steps.{Done, lawful}
-use Rattle.words.proofs.Laws.{numbered}
+use Rattle.words.proofs.Laws.{counted}
 use Rattle.step.specs.Parts.{left}
 use Rattle.board.proofs.wankitare_step.Kinds as kinds
 use Rattle.board.proofs.wankitare_step.Reads as reads
-
--- the answer that a word with number 0 stands for
-counted : (b : StepAnswer) → stepWord b % 256 ≡ 0 → b ≡ Stepped (stepWord b / 256)
-counted (Stepped n) h = ap Stepped (omega arith)
-counted (Refused d) h = absurd (numbered d h)
 
 module _ (κs : Lfts 3) (a : Dens κs kinds.ps) (x : ℕ) (t : AtExit (endedOf 3 kinds.ps kinds.r) κs) where
   -- the record, the image and the access buffer as they were lent, and an answer with them as they were left
@@ -56,7 +51,7 @@ module _ (κs : Lfts 3) (a : Dens κs kinds.ps) (x : ℕ) (t : AtExit (endedOf 3
   pub stepped-counts : reads.Post κs a x t → x % 256 ≡ 0 →
       Done images r i (a .1 .1 .0) (a .1 .1 .1 .0) l (after (Stepped (x / 256))) (x / 256)
   stepped-counts p h =
-      let e = counted (o .answer) ((λ j. sym p j .answer % 256) ∙ h) ∙ (λ j. Stepped (sym p j .answer / 256)) in
+      let e = counted (o .answer) x (λ j. p j .answer) h in
       subst (λ (w : Outcome StepAnswer (List ℕ)). Done images r i (a .1 .1 .0) (a .1 .1 .1 .0) l w (x / 256))
       (λ j. let w = sym p j in left (e j) (w .state) (w .image) (w .accesses))
       (lawful images r i (a .1 .1 .0) (a .1 .1 .1 .0) l .moves (x / 256) e)

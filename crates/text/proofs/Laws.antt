@@ -27,7 +27,8 @@ unfolding recordLine
 record-length r = rw (length-append, bytes-length r)
 
 -- a record's line is put in three pieces
-pub record-put : (r t : List ℕ) (p : ℕ) → sets (sets (sets t p (code "S" ∷ code " " ∷ [])) (p + 2) (bytesText r)) (p + 34) (code "\n" ∷ []) ≡ sets t p (recordLine r)
+pub record-put : (r t : List ℕ) (p : ℕ) →
+    sets (sets (sets t p (code "S" ∷ code " " ∷ [])) (p + 2) (bytesText r)) (p + 34) (code "\n" ∷ []) ≡ sets t p (recordLine r)
 unfolding recordLine
 record-put r t p =
     let e : p + 2 ≡ suc (suc p) = omega arith in

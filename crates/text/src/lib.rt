@@ -1,11 +1,13 @@
 // The step printer's text: what is printed for an input, "record, lines, pins, image".
 
 use rules::Refusal;
-use rules::StepAnswer;
-ghost use Prim.Native.Nat.{ℕ, _+_, _*_, _≤_, _<_};
+ghost use Prim.Native.Nat.{_+_, _*_, _/_, _%_, _≤_};
 ghost use mathlib.Core.Path.{_≡_};
 ghost use lib.ListN.{length, take};
 ghost use lib.Seq.{sets};
+ghost use Rattle.rules.specs.declared.StepAnswer.{StepAnswer};
+ghost use Rattle.rules.specs.declared.StepAnswer.the-variants.{Stepped};
+ghost use Rattle.rules.specs.Answers.{stepWord};
 ghost use Rattle.rules.specs.Text.{hex, letter, each, accessLine, lineOf, bytesText, recordLine, stepText};
 ghost use Rattle.characters.specs.Shown.{Shows};
 ghost use Rattle.text.specs.Print.{printout, printing};
@@ -110,7 +112,7 @@ fn put_record(text: &mut [u8], at: usize, state: &[u8])
 
 fn put_step(text: &mut [u8], n: u8, state: &[u8], list: &[u8]) -> usize
     requires { ⌜ ((n ≤ 7) × (123 ≤ length (now text))) × ((length (now state) ≡ 16) × (56 ≤ length (now list))) ⌝ }
-    ensures { λ r. ⌜ Shows (stepText (StepAnswer.Stepped n) (now (state .entry)) (now (list .entry))) r (now (text .entry)) (now (text .exit)) ⌝ }
+    ensures { λ r. ⌜ Shows (stepText (Stepped n) (now (state .entry)) (now (list .entry))) r (now (text .entry)) (now (text .exit)) ⌝ }
 {
     put_accesses(text, list, n as usize);
     let at = characters::put_number(text, 12 * n as usize, b'N', n as u64);
@@ -118,14 +120,16 @@ fn put_step(text: &mut [u8], n: u8, state: &[u8], list: &[u8]) -> usize
     at + 35
 }
 
-fn put_answer(text: &mut [u8], a: StepAnswer, state: &[u8], list: &[u8]) -> usize
-    requires { ⌜ (((n : ℕ) → a ≡ StepAnswer.Stepped n → n ≤ 7) × (123 ≤ length (now text))) × ((length (now state) ≡ 16) × (56 ≤ length (now list))) ⌝ }
-    ensures { λ r. ⌜ Shows (stepText a (now (state .entry)) (now (list .entry))) r (now (text .entry)) (now (text .exit)) ⌝ }
+// A step's word: its low byte is 0, or the number of a refusal.
+fn put_answer(text: &mut [u8], word: u64, state: &[u8], list: &[u8]) -> usize
+    requires { ⌜ ((word % 256 ≡ 0 → word / 256 ≤ 7) × (123 ≤ length (now text))) × ((length (now state) ≡ 16) × (56 ≤ length (now list))) ⌝ }
+    ensures { λ r. ⌜ ((a : StepAnswer) → word ≡ stepWord a → Shows (stepText a (now (state .entry)) (now (list .entry))) r (now (text .entry)) (now (text .exit))) ⌝ }
 {
-    match a {
-        StepAnswer::Stepped(n) => put_step(text, n, state, list),
-        StepAnswer::Refused(e) => characters::put_refusal(text, e),
+    let number = word % 256;
+    if number == 0 {
+        return put_step(text, (word / 256) as u8, state, list);
     }
+    characters::put_number(text, 0, b'E', number)
 }
 
 // Puts the text for an input at the front of a buffer and answers its length. At most 123 bytes: seven accesses, the count, the record.
@@ -146,6 +150,6 @@ pub fn print(input: &mut [u8], text: &mut [u8; 123]) -> usize
     let lines = input[16];
     let pins = input[17];
     let mut list = [0; 56];
-    let a = step::step(&mut state, &mut input[18..], lines, pins, &mut list, 1);
-    put_answer(text, a, &state, &list)
+    let word = step::step(&mut state, &mut input[18..], lines, pins, &mut list);
+    put_answer(text, word, &state, &list)
 }

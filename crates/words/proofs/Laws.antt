@@ -1,34 +1,49 @@
 -- A word tells a refusal from an answer.
-use Prim.Native.Nat.{ℕ, _%_}
+use Prim.Native.Nat.{ℕ, _/_, _%_, _≤_}
 use native.Mathlib.Omega.{arith}
-use mathlib.Core.Path.{_≡_, ap}
+use mathlib.Core.Path.{_≡_, sym, ap, _∙_}
 use Rattle.rules.specs.declared.Refusal.{Refusal}
 use Rattle.rules.specs.declared.Refusal.the-variants.{RecordLength, Malformed, ImageLength, Lines, Room, Undefined, ScriptLength}
 use Rattle.rules.specs.declared.Refusal.the-variants.{FileLength, Admission, MapRecord, Vectors, Place, StoreAddress, Stack}
 use Rattle.rules.specs.declared.Refusal.the-variants.{Successor, ListLength, ListRecord, Total}
-use Rattle.rules.specs.Answers.{refusalWord}
+use Rattle.rules.specs.declared.StepAnswer.{StepAnswer}
+use Rattle.rules.specs.declared.StepAnswer.the-variants.{Stepped, Refused}
+use Rattle.rules.specs.Answers.{numbersOf, refusalWord, stepWord}
 
--- a refusal's number is not 0
+-- a refusal's number is 1 to 255
+byte : (d : Refusal) → (1 ≤ numbersOf d .number) × (numbersOf d .number ≤ 255)
+byte RecordLength = (omega arith, omega arith)
+byte Malformed = (omega arith, omega arith)
+byte ImageLength = (omega arith, omega arith)
+byte Lines = (omega arith, omega arith)
+byte Room = (omega arith, omega arith)
+byte (Undefined pc opcode) = (omega arith, omega arith)
+byte ScriptLength = (omega arith, omega arith)
+byte FileLength = (omega arith, omega arith)
+byte Admission = (omega arith, omega arith)
+byte (MapRecord i) = (omega arith, omega arith)
+byte Vectors = (omega arith, omega arith)
+byte (Place i) = (omega arith, omega arith)
+byte (StoreAddress i) = (omega arith, omega arith)
+byte (Stack i) = (omega arith, omega arith)
+byte (Successor i) = (omega arith, omega arith)
+byte ListLength = (omega arith, omega arith)
+byte ListRecord = (omega arith, omega arith)
+byte Total = (omega arith, omega arith)
+
+-- it is the low byte of its word
+pub low : (d : Refusal) → refusalWord d % 256 ≡ numbersOf d .number
+low d = omega (arith, byte d .0, byte d .1)
+
+-- and so its low byte is not 0
 pub numbered : (d : Refusal) → refusalWord d % 256 ≡ 0 → ⊥
-numbered RecordLength h = absurd (omega (arith, h))
-numbered Malformed h = absurd (omega (arith, h))
-numbered ImageLength h = absurd (omega (arith, h))
-numbered Lines h = absurd (omega (arith, h))
-numbered Room h = absurd (omega (arith, h))
-numbered (Undefined pc opcode) h = absurd (omega (arith, h))
-numbered ScriptLength h = absurd (omega (arith, h))
-numbered FileLength h = absurd (omega (arith, h))
-numbered Admission h = absurd (omega (arith, h))
-numbered (MapRecord i) h = absurd (omega (arith, h))
-numbered Vectors h = absurd (omega (arith, h))
-numbered (Place i) h = absurd (omega (arith, h))
-numbered (StoreAddress i) h = absurd (omega (arith, h))
-numbered (Stack i) h = absurd (omega (arith, h))
-numbered (Successor i) h = absurd (omega (arith, h))
-numbered ListLength h = absurd (omega (arith, h))
-numbered ListRecord h = absurd (omega (arith, h))
-numbered Total h = absurd (omega (arith, h))
+numbered d h = absurd (omega (arith, h, byte d .0, byte d .1))
 
--- and so its word is not 0
+-- nor is its word
 pub nonzero : (d : Refusal) → refusalWord d ≡ 0 → ⊥
 nonzero d h = numbered d (ap (λ (n : ℕ). n % 256) h)
+
+-- the answer of a step whose word has the low byte 0
+pub counted : (a : StepAnswer) (word : ℕ) → word ≡ stepWord a → word % 256 ≡ 0 → a ≡ Stepped (word / 256)
+counted (Stepped n) word e h = ap Stepped (omega (arith, e))
+counted (Refused d) word e h = absurd (numbered d (ap (λ (w : ℕ). w % 256) (sym e) ∙ h))

@@ -4,7 +4,11 @@ use Rattle.text.proofs.put_record.Statement.{statement}
 use Rattle.text.proofs.put_record.Tie as tie
 
 returns : tie.Need-returns
-returns c = rw (c .before .before .put2 .ensures, c .before .before .before .before .before .before .before .put-bytes .ensures, c .before .before .before .before .before .before .before .before .before .before .before .put .ensures) (record-put _ _ _)
+returns c =
+    let to-put-bytes = c .before .before .before .before .before .before in
+    let at-put-bytes = to-put-bytes .before in
+    let at-put = at-put-bytes .before .before .before .before in
+    rw (c .before .before .put2 .ensures, at-put-bytes .put-bytes .ensures, at-put .put .ensures) (record-put _ _ _)
 
 pub put-record-spec : {M : Type 1} → statement M
 put-record-spec =

@@ -8,7 +8,11 @@ use Rattle.text.proofs.record_of.Tie as tie
 
 returns : tie.Need-returns
 unfolding each
-returns c = sym (take-each (now (c .before .before .before .before .before .before .before .before .before .before .before .before .before .before .before .before .args .input)) 16 (c .before .before .before .before .before .before .before .before .before .before .before .before .before .before .before .before .pre))
+returns c =
+    let to-start = c .before .before .before .before .before .before in
+    let to-start′ = to-start .before .before .before .before .before .before in
+    let start = to-start′ .before .before .before .before in
+    sym (take-each (now (start .args .input)) 16 (start .pre))
 
 pub record-of-spec : {M : Type 1} → statement M
 record-of-spec =
