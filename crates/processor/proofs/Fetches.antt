@@ -91,9 +91,16 @@ module _ (u : Bus) (i : List ℕ) where
   fetched-first c op low high b h o p q = rw (← o) (rw (entered (decode op) c low high h p q (size-is op low high b)))
 
 -- trees that run alike
-pub alike : {t t′ : Cycles Cpu} {k n : ℕ} {s : State} {i l r′ i′ l′ : List ℕ} → run (board images) t (world (s .bus) i) ≡ run (board images) t′ (world (s .bus) i) →
+pub alike : {t t′ : Cycles Cpu} {k n : ℕ} {s : State} {i l r′ i′ l′ : List ℕ} →
+    run (board images) t (world (s .bus) i) ≡ run (board images) t′ (world (s .bus) i) →
     Does t′ k s i l n r′ i′ l′ → Does t k s i l n r′ i′ l′
-alike e d = record { cpu = d .cpu; bus = d .bus; bytes = d .bytes; goes = record { made = d .goes .made; ran = e ∙ d .goes .ran; count = d .goes .count; listed = d .goes .listed } }
+alike e d =
+    record {
+      cpu = d .cpu;
+      bus = d .bus;
+      bytes = d .bytes;
+      goes = record { made = d .goes .made; ran = e ∙ d .goes .ran; count = d .goes .count; listed = d .goes .listed };
+    }
 
 -- a tree behind its fetched bytes
 pub opened : {A : Type 0} (n pc : ℕ) (t : Cycles A) {m : ℕ} {u u′ : Bus} {i l i′ l₁ l′ : List ℕ} {a : A} →
@@ -123,8 +130,8 @@ one e = record { bytes = e; goes = ended }
 pub two : {s : State} {i l r′ : List ℕ} → r′ ≡ recordOf (pastIn 2 s) → Opens 2 s i l r′ l
 two e = record { bytes = e; goes = ended }
 
-pub stands-past : {f : ℕ → ℕ} {s : State} {r i r′ : List ℕ} {w : Wiring} {pc : ℕ} (n : ℕ) → Fetched f s r i w pc → r′ ≡ recordOf (pastIn n s) →
-    Stands execution (pastIn n s) r′ w
+pub stands-past : {f : ℕ → ℕ} {s : State} {r i r′ : List ℕ} {w : Wiring} {pc : ℕ} (n : ℕ) → Fetched f s r i w pc →
+    r′ ≡ recordOf (pastIn n s) → Stands execution (pastIn n s) r′ w
 stands-past n h e = record { bytes = e; wired = h .stands .wired }
 
 -- what is done with what a mode found

@@ -4,7 +4,10 @@ use Rattle.processor.proofs.accumulated.Statement.{statement}
 use Rattle.processor.proofs.accumulated.Tie as tie
 
 returns : tie.Need-returns
-returns c = λ s e. rw (c .before .before .before .changed .ensures, c .before .before .before .before .before .flags-of .ensures s e, a-of s e) at (c .before .before .to-result .ensures s e)
+returns c = λ s e.
+    let at-changed = c .before .before .before in
+    let flags = at-changed .before .before .flags-of .ensures s e in
+    rw (at-changed .changed .ensures, flags, a-of s e) at (c .before .before .to-result .ensures s e)
 
 pub accumulated-spec : {M : Type 1} → statement M
 accumulated-spec =

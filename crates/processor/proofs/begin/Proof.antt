@@ -11,7 +11,8 @@ returns c =
     let at-wrapping-add-u16 = at-note .before .before in
     λ s i w p f.
     then-read _ (reads execution _ _ _ 0 (s .bus) i _ _ (f .opcode) (w .bank) (rw p at (at-note .note .ensures)))
-    (reads execution _ _ _ 1 (s .bus) i _ _ (f .low) (w .bank) (rw (at-wrapping-add-u16 .wrapping-add-u16 .ensures, p) at (c .before .before .note2 .ensures)))
+    (reads execution _ _ _ 1 (s .bus) i _ _ (f .low) (w .bank)
+    (rw (at-wrapping-add-u16 .wrapping-add-u16 .ensures, p) at (c .before .before .note2 .ensures)))
 
 pub begin-spec : {M : Type 1} → statement M
 begin-spec =

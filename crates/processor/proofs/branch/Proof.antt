@@ -23,7 +23,8 @@ returns c =
           let yes = rw (at-taken .taken .ensures, at-flags-of .flags-of .ensures s (h .bytes)) at (at-if1 .if1 .taken) in
           let to = rw next at (at-target .target .ensures) in
           let near = rw (to, next) at (at-if2 .if2 .taken) in
-          rw (yes, eq-eqb _ _ near) (does s (rw to at (c .before .before .set-pc .ensures s (h .bytes))) (then-read _ (rw next at (at-read .read .ensures s execution h)) ended)),
+          let first = rw next at (at-read .read .ensures s execution h) in
+          rw (yes, eq-eqb _ _ near) (does s (rw to at (c .before .before .set-pc .ensures s (h .bytes))) (then-read _ first ended)),
     )
 
 returns-2 : tie.Need-returns-2
@@ -43,9 +44,10 @@ returns-2 c =
           let yes = rw (at-taken .taken .ensures, at-flags-of .flags-of .ensures s (h .bytes)) at (at-if1 .if1 .taken) in
           let to = rw next at (at-target .target .ensures) in
           let far = rw (to, next) at (at-if2 .if2 .left) in
+          let first = rw next at (at-read .read .ensures s execution h) in
+          let second = rw (to, next) at (at-read2 .read2 .ensures s execution h) in
           rw (yes, ne-eqb _ _ far)
-          (does s (rw to at (c .before .before .set-pc2 .ensures s (h .bytes)))
-          (then-read _ (rw next at (at-read .read .ensures s execution h)) (then-read _ (rw (to, next) at (at-read2 .read2 .ensures s execution h)) ended))),
+          (does s (rw to at (c .before .before .set-pc2 .ensures s (h .bytes))) (then-read _ first (then-read _ second ended))),
     )
 
 returns-3 : tie.Need-returns-3
@@ -58,7 +60,8 @@ returns-3 c =
       omega arith,
       λ s h p.
           let no = rw (at-taken .taken .ensures, at-flags-of .flags-of .ensures s (h .bytes)) at (at-if1 .if1 .left) in
-          rw no (does s (rw (at-wrapping-add-u16 .wrapping-add-u16 .ensures, p) at (c .before .before .set-pc3 .ensures s (h .bytes))) ended),
+          let next = rw p at (at-wrapping-add-u16 .wrapping-add-u16 .ensures) in
+          rw no (does s (rw next at (c .before .before .set-pc3 .ensures s (h .bytes))) ended),
     )
 
 pub branch-spec : {M : Type 1} → statement M

@@ -3,7 +3,10 @@ use Rattle.processor.proofs.cli.Statement.{statement}
 use Rattle.processor.proofs.cli.Tie as tie
 
 returns : tie.Need-returns
-returns c = λ s e. rw (c .before .before .before .with-i .ensures, c .before .before .before .before .before .flags-of .ensures s e) at (c .before .before .set-flags .ensures s e)
+returns c = λ s e.
+    let at-with-i = c .before .before .before in
+    let flags = at-with-i .before .before .flags-of .ensures s e in
+    rw (at-with-i .with-i .ensures, flags) at (c .before .before .set-flags .ensures s e)
 
 pub cli-spec : {M : Type 1} → statement M
 cli-spec =

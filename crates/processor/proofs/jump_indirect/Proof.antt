@@ -8,8 +8,10 @@ use Rattle.processor.proofs.jump_indirect.Tie as tie
 returns : tie.Need-returns
 unfolding jumpIndirect _>>=_
 returns c = λ s h.
-    does s (c .before .before .set-pc .ensures s (h .bytes))
-    (then-call (λ to. done (withPc to (s .cpu))) (rw (c .before .before .before .before .before .before .before .before .before .wrapping-add-u16 .ensures) at (c .before .before .before .before .before .before .word-at .ensures s h)) ended)
+    let at-word = c .before .before .before .before .before .before in
+    let at-sum = at-word .before .before .before in
+    let word = rw (at-sum .wrapping-add-u16 .ensures) at (at-word .word-at .ensures s h) in
+    does s (c .before .before .set-pc .ensures s (h .bytes)) (then-call (λ to. done (withPc to (s .cpu))) word ended)
 
 pub jump-indirect-spec : {M : Type 1} → statement M
 jump-indirect-spec =

@@ -8,19 +8,33 @@ use Rattle.processor.proofs.rewrite.Statement.{statement}
 use Rattle.processor.proofs.rewrite.Tie as tie
 
 set-flags-requires : tie.Need-set-flags-requires
-set-flags-requires c κs = c .before .before .before .before .before .before .before .before .write2 .kept .0 ∙ c .before .before .before .before .before .before .before .before .before .before .before .before .before .before .before .before .before .before .write .kept .0 ∙ c .before .before .before .before .before .before .before .before .before .before .before .before .before .before .before .before .before .before .before .before .before .before .before .before .before .before .before .before .pre .1 .whole
+set-flags-requires c κs =
+    let to-write2 = c .before .before .before .before .before .before in
+    let at-write2 = to-write2 .before .before in
+    let to-write = at-write2 .before .before .before .before .before .before in
+    let at-write = to-write .before .before .before .before in
+    let to-start = at-write .before .before .before .before .before .before in
+    let start = to-start .before .before .before .before in
+    at-write2 .write2 .kept .0 ∙ at-write .write .kept .0 ∙ start .pre .1 .whole
 
 returns : tie.Need-returns
 unfolding _>>=_
-returns c = λ s h e.
-    let made = rw (c .before .before .before .before .before .before .before .before .before .before .before .before .before .before .before .before .before .before .before .before .before .before .before .before .before .before .flags-of .ensures s (h .bytes)) at (c .before .before .before .before .before .before .before .before .before .before .before .before .before .before .before .before .before .before .before .before .before .before .before .before .before .changed .ensures) in
-    let one = c .before .before .before .before .before .before .before .before .before .before .before .before .before .before .before .before .before .before .before .before .before .write .ensures s execution h in
-    let again = back h e one in
-    let two = rw made at (c .before .before .before .before .before .before .before .before .before .before .before .write2 .ensures _ execution again) in
+returns c =
+    let to-write2 = c .before .before .before .before .before .before in
+    let at-write2 = to-write2 .before .before .before .before .before in
+    let to-write = at-write2 .before .before .before .before .before .before in
+    let at-write = to-write .before .before .before .before in
+    let at-changed = at-write .before .before .before .before in
+    let at-flags-of = at-changed .before in
+    λ s h e.
+    let made = rw (at-flags-of .flags-of .ensures s (h .bytes)) at (at-changed .changed .ensures) in
+    let one = at-write .write .ensures s execution h in
+    let again = at-write2 .write2 .ensures _ execution (back h e one) in
+    let two = rw made at again in
     record {
       cpu = _;
       bus = _;
-      bytes = rw made at (c .before .before .set-flags .ensures _ (c .before .before .before .before .before .before .before .before .before .before .before .write2 .ensures _ execution again .bytes));
+      bytes = rw made at (c .before .before .set-flags .ensures _ (again .bytes));
       goes = then-write _ (one .goes) (then-write _ (two .goes) (counted ended (omega arith)));
     }
 

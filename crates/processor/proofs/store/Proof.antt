@@ -12,7 +12,8 @@ returns c =
     let start = at-wiring-of .before .before .before .before .before in
     λ s h.
     let κ = bankOf (start .args .m) in
-    let wrote = rw (at-register-of .register-of .ensures _ (h .bytes)) at (at-write .write .ensures _ κ (at-wiring-of .wiring-of .ensures .1 _ h)) in
+    let register = at-register-of .register-of .ensures _ (h .bytes) in
+    let wrote = rw register at (at-write .write .ensures _ κ (at-wiring-of .wiring-of .ensures .1 _ h)) in
     record { cpu = _; bus = _; bytes = wrote .bytes; goes = then-write _ (wrote .goes) ended }
 
 pub store-spec : {M : Type 1} → statement M

@@ -6,7 +6,10 @@ use Rattle.processor.proofs.addressing.indexed.Tie as tie
 
 returns : tie.Need-returns
 unfolding indexed
-returns c = λ s κ h. rw (c .wrapping-add-u16 .ensures) (then-read _ (rw (c .before .before .before .before .old-page .ensures) at (c .before .before .before .read .ensures s κ h)) ended)
+returns c = λ s κ h.
+    let at-read = c .before .before .before in
+    let first = rw (at-read .before .old-page .ensures) at (at-read .read .ensures s κ h) in
+    rw (c .wrapping-add-u16 .ensures) (then-read _ first ended)
 
 pub indexed-spec : {M : Type 1} → statement M
 indexed-spec =

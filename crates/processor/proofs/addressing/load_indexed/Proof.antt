@@ -8,22 +8,29 @@ use Rattle.processor.proofs.addressing.load_indexed.Tie as tie
 
 returns : tie.Need-returns
 unfolding loadIndexed
-returns c = (
-  omega arith,
-  λ s κ h.
-      let e = rw (c .before .before .before .before .before .wrapping-add-u16 .ensures) at (c .if1 .taken) in
-      then-read _ (rw (c .before .before .before .before .before .before .old-page .ensures) at (c .before .before .before .read .ensures s κ h)) (rw (eq-eqb _ _ e) ended),
-)
+returns c =
+    let at-read = c .before .before .before in
+    let at-sum = at-read .before .before in (
+      omega arith,
+      λ s κ h.
+          let e = rw (at-sum .wrapping-add-u16 .ensures) at (c .if1 .taken) in
+          let first = rw (at-sum .before .old-page .ensures) at (at-read .read .ensures s κ h) in
+          then-read _ first (rw (eq-eqb _ _ e) ended),
+    )
 
 returns-2 : tie.Need-returns-2
 unfolding loadIndexed
-returns-2 c = (
-  omega arith,
-  λ s κ h.
-      let e = rw (c .before .before .before .before .before .before .before .before .before .wrapping-add-u16 .ensures) at (c .before .before .before .before .if1 .left) in
-      then-read _ (rw (c .before .before .before .before .before .before .before .before .before .before .old-page .ensures) at (c .before .before .before .before .before .before .before .read .ensures s κ h))
-      (rw (ne-eqb _ _ e) (counted (rw (c .before .before .before .before .before .before .before .before .before .wrapping-add-u16 .ensures) at (c .before .before .read2 .ensures s κ h)) (omega arith))),
-)
+returns-2 c =
+    let at-if1 = c .before .before .before .before in
+    let at-read = at-if1 .before .before .before in
+    let at-sum = at-read .before .before in (
+      omega arith,
+      λ s κ h.
+          let e = rw (at-sum .wrapping-add-u16 .ensures) at (at-if1 .if1 .left) in
+          let first = rw (at-sum .before .old-page .ensures) at (at-read .read .ensures s κ h) in
+          let second = rw (at-sum .wrapping-add-u16 .ensures) at (c .before .before .read2 .ensures s κ h) in
+          then-read _ first (rw (ne-eqb _ _ e) (counted second (omega arith))),
+    )
 
 pub load-indexed-spec : {M : Type 1} → statement M
 load-indexed-spec =

@@ -9,8 +9,11 @@ use Rattle.processor.proofs.addressing.pointer.Tie as tie
 returns : tie.Need-returns
 unfolding pointer _>>=_
 returns c = λ s h.
-    rw (c .join .ensures)
-    (counted (then-read _ (c .before .before .before .before .before .before .before .read .ensures s execution h) (then-read _ (rw (c .before .before .before .before .before .before .before .before .before .wrapping-add-u8 .ensures) at (c .before .before .before .read2 .ensures s execution h)) ended)) (omega arith))
+    let at-read2 = c .before .before .before in
+    let at-read = at-read2 .before .before .before .before in
+    let first = at-read .read .ensures s execution h in
+    let second = rw (at-read .before .before .wrapping-add-u8 .ensures) at (at-read2 .read2 .ensures s execution h) in
+    rw (c .join .ensures) (counted (then-read _ first (then-read _ second ended)) (omega arith))
 
 pub pointer-spec : {M : Type 1} → statement M
 pointer-spec =
