@@ -3,3 +3,4 @@ pub mod Plain
 pub mod Fetches
 pub mod Lays
 pub mod Executes
+pub mod Conditions

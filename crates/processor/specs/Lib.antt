@@ -4,3 +4,4 @@ pub mod Start
 pub mod Rest
 pub mod Found
 pub mod Executed
+pub mod Conditions

@@ -5,7 +5,6 @@ mod addressing;
 use addressing::Spot;
 use rules::Changing;
 use rules::Condition;
-use rules::Flags;
 use rules::Instruction;
 use rules::Mode;
 use rules::Reading;
@@ -24,11 +23,12 @@ ghost use Rattle.rules.specs.Record.{recordOf};
 ghost use Rattle.rules.specs.Addressing.{bankOf};
 ghost use Rattle.rules.specs.Arithmetic.{changed};
 ghost use Rattle.rules.specs.Operations.{withP, withS, withResult, registerOf, taken, jsr, brk, jumpIndirect, perform};
-ghost use Rattle.rules.specs.Flags.{withI};
+ghost use Rattle.rules.specs.Flags.{flagsOf, withI};
 ghost use Rattle.state.specs.Makes.{Makes};
 ghost use Rattle.wiring.specs.Wiring.{Wired, Stands, Ready};
 ghost use Rattle.laws.specs.Goes.{Goes, Does};
 ghost use Rattle.processor.specs.Begun.{short};
+ghost use Rattle.processor.specs.Conditions.{weightOf, senseOf};
 ghost use Rattle.processor.specs.Rest.{highIn, highOf, past, rest, Fetched};
 ghost use Rattle.processor.specs.Laid.{storedAt, rewritten, changedAt, Lays};
 ghost use Rattle.processor.specs.Executed.{Begins, Executed};
@@ -141,20 +141,46 @@ fn lay(
     }
 }
 
-// When a branch is taken.
-fn taken(t: Condition, f: Flags) -> bool
-    ensures { λ r. ⌜ r ≡ taken t f ⌝ }
+// The flag that a branch looks at, as its weight in P.
+fn flag_of(t: Condition) -> u8
+    ensures { λ r. ⌜ r ≡ weightOf t ⌝ }
 {
     match t {
-        Condition::Bpl => !f.n,
-        Condition::Bmi => f.n,
-        Condition::Bvc => !f.v,
-        Condition::Bvs => f.v,
-        Condition::Bcc => !f.c,
-        Condition::Bcs => f.c,
-        Condition::Bne => !f.z,
-        Condition::Beq => f.z,
+        Condition::Bpl => 128,
+        Condition::Bmi => 128,
+        Condition::Bvc => 64,
+        Condition::Bvs => 64,
+        Condition::Bcc => 1,
+        Condition::Bcs => 1,
+        Condition::Bne => 2,
+        Condition::Beq => 2,
     }
+}
+
+// Whether it is taken where the flag is set.
+fn wants(t: Condition) -> bool
+    ensures { λ r. ⌜ r ≡ senseOf t ⌝ }
+{
+    match t {
+        Condition::Bpl => false,
+        Condition::Bmi => true,
+        Condition::Bvc => false,
+        Condition::Bvs => true,
+        Condition::Bcc => false,
+        Condition::Bcs => true,
+        Condition::Bne => false,
+        Condition::Beq => true,
+    }
+}
+
+// When a branch is taken. A mask and a compare are one way for all eight; a match of eight tests is a jump more.
+fn taken(t: Condition, p: u8) -> bool
+    ensures { λ r. ⌜ r ≡ taken t (flagsOf p) ⌝ }
+{
+    if p & flag_of(t) == 0 {
+        return !wants(t);
+    }
+    wants(t)
 }
 
 // "Branch: offset; if taken, read the next instruction's address".
@@ -171,7 +197,7 @@ fn branch(
     ensures { λ r. ⌜ (r ≤ 7) × ((s : State) → Stands execution s (now (state .entry)) w → pc ≡ s .cpu .pc → Does (perform (Branch t o) (past 2 (s .cpu))) 2 s (now (image .entry)) (now (list .entry)) r (now (state .exit)) (now (image .entry)) (now (list .exit))) ⌝ }
 {
     let next = std::num::wrapping_add_u16(pc, 2);
-    if taken(t, state::flags_of(state)) {
+    if taken(t, state[5]) {
         let to = bytes::target(next, o);
         reads::read(state, w, image, list, 2, next);
         if to / 256 == next / 256 {

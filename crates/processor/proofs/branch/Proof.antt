@@ -1,3 +1,4 @@
+use Rattle.processor.proofs.Conditions.{p-of}
 use native.Mathlib.Omega.{arith}
 use Rattle.laws.proofs.Goes.{does, ended, then-read}
 use Rattle.rules.specs.Cycles.{execution, _>>=_}
@@ -15,12 +16,11 @@ returns c =
     let at-target = at-read .before .before .before in
     let at-if1 = at-target .before in
     let at-taken = at-if1 .before in
-    let at-flags-of = at-taken .before in
-    let at-wrapping-add-u16 = at-flags-of .before .before in (
+    let at-wrapping-add-u16 = at-taken .before .before in (
       omega arith,
       λ s h p.
           let next = rw p at (at-wrapping-add-u16 .wrapping-add-u16 .ensures) in
-          let yes = rw (at-taken .taken .ensures, at-flags-of .flags-of .ensures s (h .bytes)) at (at-if1 .if1 .taken) in
+          let yes = rw (at-taken .taken .ensures, p-of s (h .bytes)) at (at-if1 .if1 .taken) in
           let to = rw next at (at-target .target .ensures) in
           let near = rw (to, next) at (at-if2 .if2 .taken) in
           let first = rw next at (at-read .read .ensures s execution h) in
@@ -36,12 +36,11 @@ returns-2 c =
     let at-target = at-read .before .before .before in
     let at-if1 = at-target .before in
     let at-taken = at-if1 .before in
-    let at-flags-of = at-taken .before in
-    let at-wrapping-add-u16 = at-flags-of .before .before in (
+    let at-wrapping-add-u16 = at-taken .before .before in (
       omega arith,
       λ s h p.
           let next = rw p at (at-wrapping-add-u16 .wrapping-add-u16 .ensures) in
-          let yes = rw (at-taken .taken .ensures, at-flags-of .flags-of .ensures s (h .bytes)) at (at-if1 .if1 .taken) in
+          let yes = rw (at-taken .taken .ensures, p-of s (h .bytes)) at (at-if1 .if1 .taken) in
           let to = rw next at (at-target .target .ensures) in
           let far = rw (to, next) at (at-if2 .if2 .left) in
           let first = rw next at (at-read .read .ensures s execution h) in
@@ -55,11 +54,10 @@ unfolding perform branchTo _>>=_
 returns-3 c =
     let at-if1 = c .before .before .before .before in
     let at-taken = at-if1 .before in
-    let at-flags-of = at-taken .before in
-    let at-wrapping-add-u16 = at-flags-of .before .before in (
+    let at-wrapping-add-u16 = at-taken .before .before in (
       omega arith,
       λ s h p.
-          let no = rw (at-taken .taken .ensures, at-flags-of .flags-of .ensures s (h .bytes)) at (at-if1 .if1 .left) in
+          let no = rw (at-taken .taken .ensures, p-of s (h .bytes)) at (at-if1 .if1 .left) in
           let next = rw p at (at-wrapping-add-u16 .wrapping-add-u16 .ensures) in
           rw no (does s (rw next at (c .before .before .set-pc3 .ensures s (h .bytes))) ended),
     )
@@ -69,7 +67,7 @@ branch-spec =
     tie.close
     (tie.spec
     (λ c κs. search needs)
-    (λ c κs. search needs)
+    (λ c. search needs)
     (λ c κs. search needs)
     (λ c κs. search needs)
     (λ c κs. search needs)
