@@ -20,9 +20,9 @@ use Rattle.laws.proofs.Entries.{fetchedBy}
 use Rattle.admission_rules.proofs.Ends.{ends}
 use Rattle.admission_rules.proofs.Places.{Small}
 
--- That entries take their operands rightly is said by equations, so that it is computed of all rows at once: what an instruction made of low
--- and high gives back is both, which are its operand where the operand's size matters, and one more where something is wrong. An address
--- (wide) is no data and no address of page zero, and JSR is late.
+-- That entries take their operands rightly is said by equations, so that it is computed of all rows at once: what an instruction made of
+-- low and high gives back is both, which are its operand where the operand's size matters, and one more where something is wrong. An
+-- address (wide) is no data and no address of page zero, and JSR is late.
 
 abbrev pub modeGives : Bool → ℕ → ℕ → Mode → ℕ × ℕ
 modeGives wide low high (Immediate v) = (if wide then suc low else v, high)

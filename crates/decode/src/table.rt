@@ -1,5 +1,5 @@
 // The table of 256 opcodes. An entry is one byte: the instruction apart from its operand. Of the 21 operations that have a mode, it is 21
-// times the mode and the operation; the instructions without a mode follow, one number each. Each group is in the order of its enum in rules.
+// times the mode and the operation; the instructions without a mode follow, one number each. Each group has the order of its enum in rules.
 
 ghost use mathlib.Core.Path.{_≡_};
 ghost use Rattle.rules.specs.Opcodes.{decode};

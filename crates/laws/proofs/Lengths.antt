@@ -144,10 +144,13 @@ operate-most : (n : ℕ) (e : Entry) (c : Cpu) → ((low high : ℕ) → entryMo
 unfolding operate _>>=_
 operate-most n undefined c h = tt
 operate-most n (alone i) c h = λ v. most-le (instructionMost i) (suc n) (omega (arith, h 0 0)) (perform i c) (perform-most i c)
-operate-most n (byte f) c h = λ v. most-le (instructionMost (f v)) (suc n) (omega (arith, h v 0)) (perform (f v) (next c)) (perform-most (f v) (next c))
+operate-most n (byte f) c h = λ v.
+    let i = f v in most-le (instructionMost i) (suc n) (omega (arith, h v 0)) (perform i (next c)) (perform-most i (next c))
 operate-most n (word f) c h = λ low high.
-    let i = f low high in most-le (instructionMost i) n (omega (arith, h low high)) (perform i (next (next c))) (perform-most i (next (next c)))
-operate-most n (late f) c h = λ v. most-le (instructionMost (f v)) (suc n) (omega (arith, h v 0)) (perform (f v) (next c)) (perform-most (f v) (next c))
+    let i = f low high in
+    most-le (instructionMost i) n (omega (arith, h low high)) (perform i (next (next c))) (perform-most i (next (next c)))
+operate-most n (late f) c h = λ v.
+    let i = f v in most-le (instructionMost i) (suc n) (omega (arith, h v 0)) (perform i (next c)) (perform-most i (next c))
 
 -- the test of all rows, whatever the operand
 abbrev short : List Row → ℕ → ℕ → Bool
@@ -159,7 +162,8 @@ rows-short low high = refl
 
 among-short : (l : List Row) (n low high : ℕ) → short l low high ≡ true → entryMost (among l n) low high ≤ 6
 among-short [] n low high h = omega arith
-among-short (r ∷ l) n low high h = go (eqb n (r .opcode)) (among-short l n low high (and-right (leb (entryMost (r .entry) low high) 6) (short l low high) h))
+among-short (r ∷ l) n low high h =
+    go (eqb n (r .opcode)) (among-short l n low high (and-right (leb (entryMost (r .entry) low high) 6) (short l low high) h))
   where
     go : (b : Bool) → entryMost (among l n) low high ≤ 6 → entryMost (if b then r .entry else among l n) low high ≤ 6
     go true q = leb-true (entryMost (r .entry) low high) 6 (and-left (leb (entryMost (r .entry) low high) 6) (short l low high) h)

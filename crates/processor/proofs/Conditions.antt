@@ -4,19 +4,14 @@ use native.Mathlib.Omega.{arith}
 use native.Mathlib.Decide.{ℕ-discrete}
 use mathlib.Core.Path.{_≡_, sym, _∙_}
 use mathlib.Core.Bool.{true, false, not}
-use mathlib.Core.List.{List}
 use borrow.Author.Tests.{eq-eqb, ne-eqb}
 use lib.Bits.{bitAnd, and-high}
-use lib.ListN.{getD}
 use lib.Pow.{pow-pos}
 use Rattle.rules.specs.declared.Condition.{Condition}
 use Rattle.rules.specs.declared.Condition.the-variants.{Bpl, Bmi, Bvc, Bvs, Bcc, Bcs, Bne, Beq}
-use Rattle.rules.specs.declared.State.{State}
 use Rattle.rules.specs.Basics.{bitOf}
 use Rattle.rules.specs.Flags.{flagsOf}
 use Rattle.rules.specs.Operations.{taken}
-use Rattle.rules.specs.Record.{recordOf}
-use Rattle.laws.proofs.Records.{flags-again}
 use Rattle.processor.specs.Conditions.{weightOf, senseOf}
 
 -- the bit k of p
@@ -57,8 +52,3 @@ taken-set Bcc p h = rw (set 0 p h)
 taken-set Bcs p h = rw (set 0 p h)
 taken-set Bne p h = rw (set 1 p h)
 taken-set Beq p h = rw (set 1 p h)
-
--- the flags in the sixteen bytes
-pub p-of : (s : State) {r : List ℕ} → r ≡ recordOf s → flagsOf (getD r 5 0) ≡ s .cpu .p
-unfolding recordOf
-p-of s e = rw e (flags-again (s .cpu .p))

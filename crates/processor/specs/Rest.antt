@@ -1,4 +1,5 @@
--- What is left of an instruction once its opcode and the byte after it were fetched: perhaps the high byte of its address, and its own accesses.
+-- What is left of an instruction once its opcode and the byte after it were fetched: perhaps the high byte of its address, and its own
+-- accesses.
 use Prim.Native.Nat.{ℕ}
 use mathlib.Core.Path.{_≡_}
 use mathlib.Core.List.{List}

@@ -45,7 +45,8 @@ pub struct State {
     pub cycles: u32,
 }
 
-// An addressing mode with its operand: a byte, or an address, low byte first. IndirectBankY is (z),Y whose data lies in a 6509's indirect bank.
+// An addressing mode with its operand: a byte, or an address, low byte first. IndirectBankY is (z),Y whose data lies in a 6509's indirect
+// bank.
 pub enum Mode {
     IndirectX(u8),
     Zero(u8),

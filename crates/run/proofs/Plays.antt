@@ -17,7 +17,7 @@ use Rattle.rules.specs.Run.{goesOn, play}
 use Rattle.laws.proofs.Lists.{rest-lent}
 use Rattle.laws.proofs.Steps.{Done, lawful}
 use Rattle.checks.specs.Checks.{Fits}
-use Rattle.words.proofs.Laws.{numbered}
+use Rattle.words.proofs.Laws.{counted}
 use Rattle.step.specs.Parts.{left, worded}
 use Rattle.run.specs.Plays.{standing}
 
@@ -37,14 +37,7 @@ module _ (w : ℕ) (r m l : List ℕ) (o : Outcome StepAnswer (List ℕ)) (e : l
   same a h = (λ j. left (sym h j) (e j .state) (e j .image) (e j .accesses))
 
   pub told-stepped : w % 256 ≡ 0 → left (Stepped (w / 256)) r m l ≡ o
-  told-stepped h = go (o .answer) refl
-    where
-      go : (a : StepAnswer) → o .answer ≡ a → left (Stepped (w / 256)) r m l ≡ o
-      go (Stepped n) q =
-          let x : w ≡ stepWord (Stepped n) = word-is ∙ ap stepWord q in
-          let z : w / 256 ≡ n = omega arith in
-          rw z (same (Stepped n) q)
-      go (Refused d) q = absurd (numbered d (ap (λ (n : ℕ). n % 256) (sym (word-is ∙ ap stepWord q)) ∙ h))
+  told-stepped h = same (Stepped (w / 256)) (counted (o .answer) w word-is h)
 
   pub told-refused : (w % 256 ≡ 0 → ⊥) → (d : Refusal) × (w ≡ refusalWord d) × (left (Refused d) r m l ≡ o)
   told-refused h = go (o .answer) refl

@@ -29,5 +29,6 @@ pub lent : {L : Type 0} {x y : Unit {0} × (List ℕ × L)} {e : List ℕ} → x
 lent l p q i = (tt, ((p ∙ sym q) i, l i))
 
 -- one buffer was lent, as the first parameter, and something is answered
-pub both : {A L : Type 0} {x y : A × (List ℕ × L)} {e : A} {l : List ℕ} → x .1 .1 ≡ y .1 .1 → x .0 ≡ e → y .0 ≡ e → x .1 .0 ≡ l → y .1 .0 ≡ l → x ≡ y
+pub both : {A L : Type 0} {x y : A × (List ℕ × L)} {e : A} {l : List ℕ} → x .1 .1 ≡ y .1 .1 → x .0 ≡ e → y .0 ≡ e →
+    x .1 .0 ≡ l → y .1 .0 ≡ l → x ≡ y
 both r p q s t i = ((p ∙ sym q) i, ((s ∙ sym t) i, r i))

@@ -1,5 +1,5 @@
--- Where the sixteen bytes stand for a state with these pins and an image of this length, an instruction leaves one record, one image and one
--- list of accesses, and answers one number of them.
+-- Where the sixteen bytes stand for a state with these pins and an image of this length, an instruction leaves one record, one image and
+-- one list of accesses, and answers one number of them.
 use lib.ListN.{length}
 use denote.Ref.{now}
 use Rattle.rules.specs.declared.State.{State}

@@ -72,7 +72,8 @@ wired {w = w} {w′ = w′} d e j =
 -- an instruction is executed in one way, or refused
 pub executed : {s : State} {i l : List ℕ} {n m : ℕ} {r′ i′ l′ r″ i″ l″ : List ℕ} →
     Executed s i l n r′ i′ l′ → Executed s i l m r″ i″ l″ → left n r′ i′ l′ ≡ left m r″ i″ l″
-executed {s} {i} {n = n} {m = m} {r′ = r′} {i′ = i′} {l′ = l′} {r″ = r″} {i″ = i″} {l″ = l″} d e = go (isDefined (decode (opcodeOf images s i))) refl
+executed {s} {i} {n = n} {m = m} {r′ = r′} {i′ = i′} {l′ = l′} {r″ = r″} {i″ = i″} {l″ = l″} d e =
+    go (isDefined (decode (opcodeOf images s i))) refl
   where
     go : (b : Bool) → isDefined (decode (opcodeOf images s i)) ≡ b → left n r′ i′ l′ ≡ left m r″ i″ l″
     go true h = does (d .does h .1) (e .does h .1)

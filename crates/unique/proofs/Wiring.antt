@@ -13,7 +13,8 @@ pub wire : (s : State) → UniqueWhere its.wire.Kinds.ps its.wire.Kinds.r (λ κ
 wire s κs a h x y p q =
     answer
     refl
-    (wired (p .1 s (h .bytes) (h .sound) (h .banked) (h .pins) (h .banks) .wired) (q .1 s (h .bytes) (h .sound) (h .banked) (h .pins) (h .banks) .wired))
+    (wired (p .1 s (h .bytes) (h .sound) (h .banked) (h .pins) (h .banks) .wired)
+    (q .1 s (h .bytes) (h .sound) (h .banked) (h .pins) (h .banks) .wired))
     refl
 
 pub indirect : (s : State) →

@@ -6,4 +6,12 @@ use Rattle.decode.proofs.stacking.Statement.{statement}
 use Rattle.decode.proofs.stacking.Tie as tie
 
 pub stacking-spec : {M : Type 1} → statement M
-stacking-spec = tie.close (tie.spec (λ c. search needs) (λ c. search needs) (λ c. search needs) (λ c. search needs) (λ c. search needs) (λ c. last stackings _ Rts (c .match .rest)))
+stacking-spec =
+    tie.close
+    (tie.spec
+    (λ c. search needs)
+    (λ c. search needs)
+    (λ c. search needs)
+    (λ c. search needs)
+    (λ c. search needs)
+    (λ c. last stackings _ Rts (c .match .rest)))

@@ -1,4 +1,4 @@
-use Rattle.processor.proofs.Conditions.{p-of}
+use Rattle.state.proofs.Registers.{p-of}
 use native.Mathlib.Omega.{arith}
 use Rattle.laws.proofs.Goes.{does, ended, then-read}
 use Rattle.rules.specs.Cycles.{execution, _>>=_}

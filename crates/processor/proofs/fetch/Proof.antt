@@ -3,7 +3,8 @@ use Prim.Native.Nat.{_+_, _<_, _≤_}
 use mathlib.Core.Path.{sym}
 use Rattle.rules.specs.Cycles.{execution}
 use Rattle.wiring.specs.Wiring.{plainOf}
-use Rattle.processor.proofs.Plain.{look-plain, beside}
+use Rattle.processor.proofs.Plain.{beside}
+use Rattle.reads.proofs.Held.{look-plain}
 use borrow.Author.Needs.{needs}
 use Rattle.processor.proofs.fetch.Statement.{statement}
 use Rattle.processor.proofs.fetch.Tie as tie

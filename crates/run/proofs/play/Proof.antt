@@ -74,7 +74,8 @@ loop-again c =
     let start = at-loop .before .before .before .before .before in
     let at = at-loop .loop in
     let script = now (start .args .script) in
-    let e = told-stepped _ _ _ _ _ (lent script (at .state) (at .image) (at .accesses) (at .i) (at .listed) _ _ _ _ (at-turn .turn .ensures)) (c .if1 .left) in
+    let word = lent script (at .state) (at .image) (at .accesses) (at .i) (at .listed) _ _ _ _ (at-turn .turn .ensures) in
+    let e = told-stepped _ _ _ _ _ word (c .if1 .left) in
     let h : at .i + 1 < length script = omega (arith, at .inv .even, start .pre .1) in
     record {
       even = omega (arith, at .inv .even);
@@ -95,7 +96,8 @@ returns-2 c =
     let at-loop = c .before .before .before in
     let start = at-loop .before .before .before .before .before in
     let at = at-loop .loop in
-    let end = ends (now (start .args .script)) (at .state) (at .image) (at .accesses) (at .i) (at .listed) (c .before .before .loop-test .left) in
+    let script = now (start .args .script) in
+    let end = ends script (at .state) (at .image) (at .accesses) (at .i) (at .listed) (c .before .before .loop-test .left) in
     rw (c .tell2 .ensures) (ap (worded tallied) (end ∙ sym (at .inv .plays)))
 
 pub play-spec : {M : Type 1} → statement M

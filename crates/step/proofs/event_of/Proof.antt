@@ -11,7 +11,8 @@ returns c = λ s e. rw (eq-eqb _ 1 (c .if1 .taken))
 returns-2 : tie.Need-returns-2
 unfolding eventOf
 returns-2 c = λ s e.
-    rw (ne-eqb _ 1 (c .before .before .before .if1 .left), eq-eqb _ 1 (c .before .before .if2 .taken), eq-eqb _ 1 (c .before .if3 .taken), ← e)
+    let at-if2 = c .before .before in
+    rw (ne-eqb _ 1 (at-if2 .before .if1 .left), eq-eqb _ 1 (at-if2 .if2 .taken), eq-eqb _ 1 (c .before .if3 .taken), ← e)
     (c .irq-event .ensures)
 
 returns-3 : tie.Need-returns-3

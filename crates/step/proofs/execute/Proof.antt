@@ -14,7 +14,10 @@ returns c =
       omega arith,
       λ s b.
           let x = at-instruction .instruction .ensures .1 s b in
-          record { does = λ d. absurd (omega (arith, c .if1 .taken, x .does d .0)); refuses = λ d. let q = x .refuses d in (refl, q .1, q .2, q .3) },
+          record {
+            does = λ d. absurd (omega (arith, c .if1 .taken, x .does d .0));
+            refuses = λ d. let q = x .refuses d in (refl, q .1, q .2, q .3);
+          },
     )
 
 returns-2 : tie.Need-returns-2

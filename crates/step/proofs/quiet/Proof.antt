@@ -27,7 +27,8 @@ answer-requires c κs =
     let at-execute = to-execute .before .before in
     let start = at-execute .before .before .before .before .before .before in
     let begun = start .before .before in
-    (at-execute .execute .ensures .0, sized _ _ (begun .pre) (at-execute .execute .kept .1 .0) (at-execute .execute .kept .1 .1 .0) (omega arith))
+    let kept = at-execute .execute .kept .1 in
+    (at-execute .execute .ensures .0, sized _ _ (begun .pre) (kept .0) (kept .1 .0) (omega arith))
 
 returns-2 : tie.Need-returns-2
 unfolding eventOf
