@@ -10,7 +10,7 @@ use Rattle.decode.specs.Numbers.{number, numberOf, made}
 use Rattle.decode.proofs.Lists.{at-map}
 
 -- a list made of the table's entries has at n what is made of opcode n
-pub at-opcode : {A : Type 0} (f : Entry → A) (x : A) (n : ℕ) → n < 256 → getD (map f table) n x ≡ f (decode n)
+at-opcode : {A : Type 0} (f : Entry → A) (x : A) (n : ℕ) → n < 256 → getD (map f table) n x ≡ f (decode n)
 unfolding table
 at-opcode f x n h = at-map f table n x undefined h ∙ ap f (table-at n h)
 

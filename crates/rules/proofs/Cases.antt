@@ -92,6 +92,22 @@ steps =
     ∷ left (runs (state 2 7 0 0xFE 0x20 0x8000) (zeros 1 from 0x8000 holds (0x68 ∷ []) from 0x01FF holds (0x80 ∷ []))) 4 0x80 0xFF 0xA0
     -- 39 the cycle count is 511 and then 513, "low byte first"
     ∷ same (drop 12 (runs (set (set (state 2 0 0 0 0x20 0x8000) 12 0xFF) 13 0x01) (zeros 1 from 0x8000 holds (0xEA ∷ [])) .state)) (0x01 ∷ 0x02 ∷ 0 ∷ 0 ∷ [])
+    -- 40 sums past FFFF wrap: NOP at FFFF; LDA FFFF,X, X = 1; BNE at FFFD to 0000, and at 0000 to FFFF; JMP (FFFF)
+    ∷ (let o = runs (state 2 0 0 0 0x20 0xFFFF) (zeros 1 from 0xFFFF holds (0xEA ∷ [])) in reads o 1 0x0000 0 0 && pcIs o 0x00 0x00)
+    ∷ (let o = on 0 1 0 0x20 (0xBD ∷ 0xFF ∷ 0xFF ∷ []) in reads o 3 0xFF00 0 0 && reads o 4 0x0000 0 0)
+    ∷ (let o = runs (state 2 0 0 0 0x20 0xFFFD) (zeros 1 from 0xFFFD holds (0xD0 ∷ 0x01 ∷ [])) in reads o 3 0xFF00 0 0 && pcIs o 0x00 0x00)
+    ∷ (let o = runs (state 2 0 0 0 0x20 0x0000) (zeros 1 from 0x0000 holds (0xD0 ∷ 0xFD ∷ [])) in reads o 3 0x00FF 0 0 && pcIs o 0xFF 0xFF)
+    ∷ (let o = on 0 0 0 0x20 (0x6C ∷ 0xFF ∷ 0xFF ∷ []) in reads o 3 0xFFFF 0 0 && reads o 4 0x0000 0 0)
+    -- 45 decimal 20 - 01, C = 1: the low digits borrow, 19; FF + 01: 00, Z, C; ROL A of 80 with C
+    ∷ left (on 0x20 0 0 0x29 (0xE9 ∷ 0x01 ∷ [])) 2 0x19 0 0x29
+    ∷ left (on 0xFF 0 0 0x20 (0x69 ∷ 0x01 ∷ [])) 2 0x00 0 0x23
+    ∷ left (on 0x80 0 0 0x21 (0x2A ∷ [])) 2 0x01 0 0x21
+    -- 48 the cycle count is FFFFFFFF and then 1, "modulo 2^32"
+    ∷ same (drop 12 (runs (take 12 (state 2 0 0 0 0x20 0x8000) ++ replicate 4 0xFF) (zeros 1 from 0x8000 holds (0xEA ∷ [])) .state)) (1 ∷ 0 ∷ 0 ∷ 0 ∷ [])
+    -- 49 6509: "A bank change holds from the next access": after E6 00 in bank 2 the next step's opcode is read in bank 3
+    ∷ (let r = registers 2 0 (state 9 7 0 0xFF 0x20 0x8000) in
+    let m = zeros 4 from 0x28000 holds (0xE6 ∷ 0x00 ∷ []) from 0x38002 holds (0xEA ∷ []) in
+    same (take 8 (drop 40 (runOf charts r m (replicate 4 0) (replicate 112 0) .accesses))) (0x02 ∷ 0x80 ∷ 3 ∷ 0xEA ∷ 0 ∷ 0 ∷ 0 ∷ 0 ∷ []))
     ∷ []
 
 computed-steps : failing 1 steps ≡ []

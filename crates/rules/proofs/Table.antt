@@ -13,9 +13,18 @@ defined [] = 0
 defined (e ∷ l) = bit (isDefined e) + defined l
 
 -- n numbers from k on
-abbrev from : ℕ → ℕ → List ℕ
+abbrev pub from : ℕ → ℕ → List ℕ
 from k zero = []
 from k (suc n) = k ∷ from (suc k) n
+
+-- what is made of each number stands at that number
+made-from : {A : Type 0} (f : ℕ → A) (d : A) (n i k : ℕ) → i < n → getD (map f (from k n)) i d ≡ f (k + i)
+made-from f d zero i k h = absurd (omega arith)
+made-from f d (suc n) zero k h = ap f (omega arith)
+made-from f d (suc n) (suc i) k h = made-from f d n i (suc k) (omega arith) ∙ ap f (omega arith)
+
+pub made-at : {A : Type 0} (f : ℕ → A) (d : A) (i : ℕ) → i < 256 → getD (map f (from 0 256)) i d ≡ f i
+made-at f d i h = let e : 0 + i ≡ i = omega arith in made-from f d 256 i 0 h ∙ ap f e
 
 -- the one computed test, of all 256 entries
 agrees : table ≡ map decode (from 0 256)
@@ -30,10 +39,5 @@ defined-are : defined table ≡ 151
 unfolding table
 defined-are = refl
 
-at-from : (n i k : ℕ) → i < n → getD (map decode (from k n)) i undefined ≡ decode (k + i)
-at-from zero i k h = absurd (omega arith)
-at-from (suc n) zero k h = ap decode (omega arith)
-at-from (suc n) (suc i) k h = at-from n i (suc k) (omega arith) ∙ ap decode (omega arith)
-
 pub table-at : (i : ℕ) → i < 256 → getD table i undefined ≡ decode i
-table-at i h = let e : 0 + i ≡ i = omega arith in rw agrees (at-from 256 i 0 h ∙ ap decode e)
+table-at i h = rw agrees (made-at decode undefined i h)
