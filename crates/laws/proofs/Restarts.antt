@@ -164,8 +164,7 @@ found-stands (r ∷ rs) file p t u s h = go (wellFormed r) h
     go true e = let q : p ≡ 16 * length rs = cc in List·Memᴰ·head (ap (recordAt file) q ∙ s .0)
     go false e = let z : _≡_ {A = ℕ} 0 1 = cc in absurd (omega arith)
 
--- "two power dips in a row, a bad page's worth of lost tail included (any cut to a prefix of the file), never yield a record that was not
--- written whole"
+-- power dips in a row, the loss of the file's end to any prefix included, never yield a record that was not written whole
 pub found-written : {rs : List (List ℕ)} {file : List ℕ} (g : Grown rs file) (p t : ℕ) → restart file ≡ Found p t →
     Written (recordAt file p) g
 found-written {rs} {file} g p t h =

@@ -41,7 +41,8 @@ fn low_held(state: &[u8], pins: u8, image: &[u8], a: u16) -> u8
 // What a read would find, unlisted.
 pub fn look(state: &[u8], w: Wiring, image: &[u8], a: u16) -> u8
     requires { ⌜ Ready w (length (now state)) (length (now image)) 56 ⌝ }
-    ensures { λ r. ⌜ ((s : State) (κ : Bank) → Stands κ s (now (state .entry)) w → r ≡ look images (world (s .bus) (now (image .entry))) κ a) ⌝ }
+    ensures { λ r. ⌜ ((s : State) (κ : Bank) → Stands κ s (now (state .entry)) w →
+        r ≡ look images (world (s .bus) (now (image .entry))) κ a) ⌝ }
 {
     if a < w.plain {
         return low_held(state, w.pins, image, a);
@@ -52,7 +53,9 @@ pub fn look(state: &[u8], w: Wiring, image: &[u8], a: u16) -> u8
 // One read cycle, the step's k-th.
 pub fn read(state: &[u8], w: Wiring, image: &[u8], list: &mut [u8], k: usize, a: u16) -> u8
     requires { ⌜ (k < 7) × Ready w (length (now state)) (length (now image)) (length (now list)) ⌝ }
-    ensures { λ r. ⌜ ((s : State) (κ : Bank) → Stands κ s (now (state .entry)) w → Goes (read κ a done) k (s .bus) (now (image .entry)) (now (list .entry)) r (k + 1) (s .bus) (now (image .entry)) (now (list .exit))) ⌝ }
+    ensures { λ r. ⌜ ((s : State) (κ : Bank) → Stands κ s (now (state .entry)) w →
+        Goes (read κ a done) k (s .bus) (now (image .entry)) (now (list .entry)) r (k + 1) (s .bus) (now (image .entry))
+        (now (list .exit))) ⌝ }
 {
     let v = look(state, w, image, a);
     listing::note(list, k, a, w.bank, v, 0);
@@ -70,7 +73,9 @@ pub fn word_at(
     two: u16,
 ) -> u16
     requires { ⌜ (k < 6) × Ready w (length (now state)) (length (now image)) (length (now list)) ⌝ }
-    ensures { λ r. ⌜ ((t : State) → Stands execution t (now (state .entry)) w → Goes (wordAt one two) k (t .bus) (now (image .entry)) (now (list .entry)) r (k + 2) (t .bus) (now (image .entry)) (now (list .exit))) ⌝ }
+    ensures { λ r. ⌜ ((t : State) → Stands execution t (now (state .entry)) w →
+        Goes (wordAt one two) k (t .bus) (now (image .entry)) (now (list .entry)) r (k + 2) (t .bus) (now (image .entry))
+        (now (list .exit))) ⌝ }
 {
     let low = read(state, w, image, list, k, one);
     let high = read(state, w, image, list, k + 1, two);

@@ -62,17 +62,18 @@ decimalAdc a m f =
           };
     }
 
--- "L = difference of low digits - (1 - C); if negative, L = (L - 6) mod 16 - 16": L + 16
+-- "L = difference of low digits - (1 - C); if negative, L = (L - 6) mod 16 - 16", kept as L + 16: so -1 becomes 15, negative is under 16,
+-- and (L - 6) mod 16 is (L + 16 + 10) mod 16
 unfoldable pub lowDifference : ℕ → ℕ → ℕ → ℕ
 lowDifference a m c =
     let l = 15 + a % 16 + c - m % 16 in
     if ltb l 16 then (l + 10) % 16 else l
 
--- "if negative, subtract 96": of T + 256, modulo 256
+-- "if negative, subtract 96", of T kept as T + 256: negative is under 256, and -96 is 160 modulo 256
 unfoldable pub highDifference : ℕ → ℕ
 highDifference t = (if ltb t 256 then t + 160 else t) % 256
 
--- "T likewise"; "All flags are the binary ones."
+-- "T likewise": T + 256 is 240 + high a + (L + 16) - high m. "All flags are the binary ones."
 abbrev pub decimalSbc : ℕ → ℕ → Flags → Result
 decimalSbc a m f =
     record {

@@ -108,7 +108,7 @@ module _ {M : Type 0} (memory : Memory M) where
   abbrev pub board : Device (World M)
   board = record { bank = λ w. selected (w .bus); look = look; stored = stored }
 
--- "8 bytes: address low, high, selected bank before the modulo, value, 0 read or 1 write, three zeros"
+-- "8 bytes: address low, high, selected bank before the modulo (0 unless 6509), value, 0 read or 1 write, three zeros"
 abbrev pub bytesOf : Access → List ℕ
 bytesOf a = a .address % 256 ∷ a .address / 256 ∷ a .bank ∷ a .value ∷ a .kind ∷ 0 ∷ 0 ∷ 0 ∷ []
 

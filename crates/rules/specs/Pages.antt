@@ -13,7 +13,7 @@ use Rattle.rules.specs.Basics.{if_then_else_, all, at}
 use Rattle.rules.specs.Answers.{Test, _unless_, tested, countWord}
 use Rattle.rules.specs.Text.{hex, spaced, each, numberLine, refusalLine}
 
--- Record k of a list begins at byte 8 * k: "address low, high, selected bank .., value, 0 read or 1 write, three zeros". "On the 6509
+-- Record k of a list begins at byte 8 * k: "address low, high, selected bank .. value, 0 read or 1 write, three zeros". "On the 6509
 -- banks are ignored."
 abbrev pub pageOf : List ℕ → ℕ → ℕ
 pageOf l k = at l (8 * k + 1)

@@ -16,8 +16,8 @@ long b0 b1 b2 b3 = b0 + 256 * b1 + 65536 * b2 + 16777216 * b3
 abbrev pub cyclesIn : List ℕ → ℕ
 cyclesIn r = long (at r 12) (at r 13) (at r 14) (at r 15)
 
--- "0 part; 1 A; 2 X; 3 Y; 4 S; 5 P; 6, 7 PC low, high; 8, 9 the registers at 0000 and 0001; 10 last NMI level; 11 protected pages c".
--- The pins and the image's banks come from beside the record.
+-- "0 part (02, 08, 09); 1 A; 2 X; 3 Y; 4 S; 5 P; 6, 7 PC low, high; 8, 9 the registers at 0000 and 0001; 10 last NMI level (0 or 1);
+-- 11 protected pages c". The pins and the image's banks come from beside the record.
 unfoldable pub stateOf : List ℕ → ℕ → ℕ → State
 stateOf r pins banks =
     record {

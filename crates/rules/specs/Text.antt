@@ -45,7 +45,7 @@ unfoldable pub accessLine : ℕ → ℕ → ℕ → ℕ → ℕ → List ℕ
 accessLine kind bank high low value =
     letter kind ∷ code " " ∷ digit (bank % 16) ∷ code " " ∷ hex high ++ hex low ++ code " " ∷ hex value ++ code "\n" ∷ []
 
--- that of access k of a list: "address low, high, selected bank before the modulo, value, 0 read or 1 write"
+-- that of access k of a list: "address low, high, selected bank .. value, 0 read or 1 write"
 abbrev pub lineOf : List ℕ → ℕ → List ℕ
 lineOf l k = let p = 8 * k in accessLine (at l (p + 4)) (at l (p + 2)) (at l (p + 1)) (at l p) (at l (p + 3))
 

@@ -55,7 +55,7 @@ pub fn numbers_of(e: Refusal) -> Numbers
     }
 }
 
-// "bits 0..7 the refusal's number", 8..15 a small detail, from 16 on a large one.
+// Bits 0 to 7 are the number, 8 to 15 the small detail, from 16 on the large one.
 pub fn packed(n: Numbers) -> u64
     ensures { λ r. ⌜ r ≡ packed n ⌝ }
 {
