@@ -47,7 +47,7 @@ enum {
     /* image_len is not 65,536; or, for a 6509, not 1, 2, 4, 8 or 16 times that. */
     WANKITARE_IMAGE_LENGTH = 3,
 
-    /* An input that the part lacks: bits 3 to 7 of lines, NMI on a 6508, or pins not 0 on any other part. */
+    /* An input that the part lacks. Bits 3 to 7 of lines, NMI on a 6508, or pins not 0 on any other part. */
     WANKITARE_LINES_OR_PINS = 4,
 
     /* accesses_len is under 56, or in a run what is left of it. Each step wants room for the longest list, whatever it
@@ -61,41 +61,43 @@ enum {
     /* script_len is odd. */
     WANKITARE_SCRIPT_LENGTH = 7,
 
-    /* The restart file is under 16 or over 65,536 bytes, so that it holds no record to restart from; or an append would
-       take it past 65,536. */
+    /* The restart file is under 16 or over 65,536 bytes, or an append would take it past that. There is no record to
+       restart from, or no place for one more. */
     WANKITARE_FILE_LENGTH = 8,
 
-    /* Admission: image_len is not 65,536, c is 0 or 255, or map_len is 0, over 65,536 or no multiple of 8. */
+    /* Admission: image_len, c or map_len. image_len is not 65,536, c is 0 or 255, or map_len is 0, over 65,536 or no
+       multiple of 8. */
     WANKITARE_ADMISSION_INPUT = 10,
 
-    /* The map record at wankitare_index has no kind from 1 to 3 or no three zeros at its end, or its address is not
-       above that of the record before it. */
+    /* The map record at wankitare_index is malformed or does not ascend. It has no kind from 1 to 3 or no three zeros
+       at its end, or its address is not above that of the record before it. */
     WANKITARE_MAP_RECORD = 11,
 
-    /* FFFC does not point to a main record of height 0, or FFFE not to a handler's; or their needs and the three bytes
-       of an interrupt do not fit into the stack's 256. */
+    /* The vectors, or the room on the stack. FFFC does not point to a main record of height 0, or FFFE not to a
+       handler's; or their needs and the three bytes of an interrupt do not fit into the stack's 256. */
     WANKITARE_VECTORS_OR_ROOM = 12,
 
-    /* The instruction at wankitare_index does not lie whole in protected pages; or its opcode is none of the 151, or
-       BRK, PLP, JMP (a), 81 or 91. */
+    /* The instruction at wankitare_index lies outside the protected pages, or its opcode is undefined or barred. It does
+       not lie whole in them; or its opcode is none of the 151, or BRK, PLP, JMP (a), 81 or 91. */
     WANKITARE_PLACE_OR_OPCODE = 13,
 
-    /* It is a store, shift, INC or DEC that could reach the stack page: its absolute address is 0100 to 01FF, or its
-       a,X or a,Y base 0001 to 01FF. */
+    /* It could write the stack page. It is a store, shift, INC or DEC whose absolute address is 0100 to 01FF, or whose
+       a,X or a,Y base is 0001 to 01FF. */
     WANKITARE_STORE_ADDRESS = 14,
 
-    /* TXS outside main or not at height 0; CLI outside main; RTS not in a routine at height 0; RTI not in a handler at
-       height 0; PLA at height 0. */
+    /* It is TXS, CLI, RTS, RTI or PLA, of the wrong kind or height. TXS outside main or not at height 0; CLI outside
+       main; RTS not in a routine at height 0; RTI not in a handler at height 0; PLA at height 0. */
     WANKITARE_KIND_OR_HEIGHT = 15,
 
-    /* An instruction that it leads to has no record, or one of another kind, a height that does not follow, or more
-       need than it leaves; or a JSR calls what is no routine of height 0, or one that needs too much. */
+    /* It leads to an instruction that is not marked as it must be. That has no record, or one of another kind, a height
+       that does not follow, or more need than it leaves; or a JSR calls what is no routine of height 0, or one that
+       needs too much. */
     WANKITARE_SUCCESSOR = 16,
 
     /* Counting by page: accesses_len is no multiple of 8, so the list is cut. */
     WANKITARE_LIST_LENGTH = 20,
 
-    /* A record of the list is none that a step could have listed: its byte 4 is above 1, or one of its bytes 5 to 7 is
+    /* A record of the list is none that a step could have listed. Its byte 4 is above 1, or one of its bytes 5 to 7 is
        not 0. */
     WANKITARE_LIST_RECORD = 21,
 
@@ -194,8 +196,7 @@ enum {
  * Answers a word, as every call does: take it apart by the functions below. Its bits:
  *     0..7    the refusal's number, 0 where there is none
  *     8..15   step done: the number of its accesses; refusal 6: the opcode; record found: the tail's length
- *     16..31  refusal 6: PC; 11, 13 to 16: the map record's index; record found, place for the next one: that place,
- *             up to bit 47
+ *     16..31  refusal 6: PC; 11, 13 to 16: the map record's index; record found, place for the next one: that place
  *     others  0
  */
 uint64_t wankitare_step(uint8_t *record, size_t record_len, uint8_t *image, size_t image_len,
