@@ -72,10 +72,10 @@ module _ (m₀ : List ℕ) (c : ℕ) (map : List ℕ) (ad : Admitted m₀ c map)
 
   after : (lines : ℕ) (u : State) (buffer : List ℕ) (b : Bus) (is : b .part ≡ 2) (ran : Ran (World (List ℕ)) Cpu) (x : End Cpu) → Ended b is ran x →
       (e : Effect) (s : ℕ) (k : Stacked) → x .writes ≡ pushesOf e s → Ready m₀ c map ad (x .value) (x .image) (stackedAfter e k) →
-      After e s k (finished images lines u ran buffer)
+      After e s k (finished lines u ran buffer)
   unfolding finished stateOf
   after lines u buffer b is ran x h e s k only ready =
-      let v = stateAfter images lines u ran in
+      let v = stateAfter lines u ran in
       let cpu : cpuIn (recordOf v) ≡ x .value = ap (λ (w : State). w .cpu) (read-again v) ∙ h .value in
       record {
         accesses = length (ran .list);
@@ -130,10 +130,10 @@ module _ (m₀ : List ℕ) (c : ℕ) (map : List ℕ) (ad : Admitted m₀ c map)
         ),
       )
 
-      step-is : outcome r g ≡ finished images (g .lines) u (ranOf images e u (g .image)) (g .buffer)
+      step-is : outcome r g ≡ finished (g .lines) u (ranOf images e u (g .image)) (g .buffer)
       unfolding step
       step-is =
-          tested-all (stepTests images r (g .image) (g .lines) (g .pins) (g .buffer)) (refused images r (g .image) (g .lines) (g .pins) (g .buffer)) _ holds
+          tested-all (stepTests images r (g .image) (g .lines) (g .pins) (g .buffer)) (refused r (g .image) (g .buffer)) _ holds
 
       pub after-step : After (effect r g) (u .cpu .s) k (outcome r g)
       after-step =

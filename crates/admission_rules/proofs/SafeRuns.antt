@@ -60,13 +60,13 @@ module _ (m₀ : List ℕ) (c : ℕ) (map : List ℕ) (ad : Admitted m₀ c map)
       let n = a .accesses in
       let d = lawful images (s .state) (s .image) lines pins (g .buffer) .moves n (a .answered) in
       let before = length-take-le i (s .accesses) (omega arith) in
-      let later : Room rest (moved images s o n) =
+      let later : Room rest (moved s o n) =
       omega (arith, d .most, d .size, before, length-append (take i (s .accesses)) (o .accesses), length-drop i (s .accesses)) in
-      let played = on (moved images s o n)
+      let played = on (moved s o n)
       (record { k = stackedAfter (effect (s .state) g) k; six = again m₀ c map ad (s .state) g k six size proper w; ready = a .ready }) later in
       let steps : s .answer .steps + 1 + length rest / 2 ≡ s .answer .steps + suc (suc (length rest)) / 2 = omega arith in (
         played .0,
-        ap (λ (x : StepAnswer). goesOn images (play images rest) s o x .answer) (a .answered) ∙ played .1 ∙ ap (λ (x : ℕ). Played x (played .0)) steps,
+        ap (λ (x : StepAnswer). goesOn (play images rest) s o x .answer) (a .answered) ∙ played .1 ∙ ap (λ (x : ℕ). Played x (played .0)) steps,
       )
 
   plays : (script : List ℕ) (s : Outcome Tally (List ℕ)) → Between s → ProperScript script → Room script s → PlaysFrom script s
@@ -90,8 +90,8 @@ plays-out m c map e r x bytes lines pins rest buffer first p room =
     let ad = admitted m c map e in
     let k : Stacked = record { pushed = 0; pulled = 0 } in
     let script = lines ∷ pins ∷ rest in
-    let s = start images r m script buffer in
-    let tests : Hold (runTests images r m script buffer) =
+    let s = start r m buffer in
+    let tests : Hold (runTests images r m script) =
     (eq-eqb _ _ (x .size), (x .formed, (rw (x .part, ad .size), (eq-eqb _ _ (even script p), tt)))) in
     let event = res-first m c map ad lines (stateIn r (givenAt lines pins s) .nmi) (cpuIn r) first in
     let w = subst (λ (v : Event). Well m c map ad v (cpuIn r) m k) (sym event)
@@ -99,6 +99,6 @@ plays-out m c map e r x bytes lines pins rest buffer first p room =
     let played = one m c map ad lines pins rest s k (sixteen c r x) (ad .size) p (omega arith) w (λ t bt rt. plays m c map ad rest t bt (p .3) rt) in
     let zero : 0 + length script / 2 ≡ length script / 2 = omega arith in (
       played .0,
-      ap (λ (o : Outcome _ (List ℕ)). o .answer) (tested-all (runTests images r m script buffer) (stopped images s) (play images script s) tests)
+      ap (λ (o : Outcome _ (List ℕ)). o .answer) (tested-all (runTests images r m script) (stopped s) (play images script s) tests)
           ∙ played .1 ∙ ap (λ (n : ℕ). Played n (played .0)) zero,
     )

@@ -111,7 +111,7 @@ pub record Unaltered (c : ℕ) (m m′ : List ℕ) : Type 0 where
 -- the step that a record r takes with g
 module _ (r : List ℕ) (g : Given) where
   abbrev pub stateIn : State
-  stateIn = stateNow images r (g .image) (g .lines) (g .pins)
+  stateIn = stateNow images r (g .image) (g .pins)
 
   abbrev pub eventIn : Event
   eventIn = eventNow images r (g .image) (g .lines) (g .pins)

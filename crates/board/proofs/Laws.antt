@@ -11,10 +11,9 @@ use Rattle.rules.specs.declared.StepAnswer.{StepAnswer}
 use Rattle.rules.specs.declared.StepAnswer.the-variants.{Stepped, Refused}
 use Rattle.rules.specs.Answers.{stepWord}
 use Rattle.rules.specs.Bus.{images}
-use Rattle.rules.specs.Step.{Outcome, step}
+use Rattle.rules.specs.Step.{Outcome, step, left}
 use Rattle.laws.proofs.Steps.{Done, lawful}
 use Rattle.words.proofs.Laws.{counted}
-use Rattle.step.specs.Parts.{left}
 use Rattle.board.proofs.wankitare_step.Kinds as kinds
 use Rattle.board.proofs.wankitare_step.Reads as reads
 

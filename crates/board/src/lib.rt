@@ -7,10 +7,9 @@ use rules::RestartAnswer;
 ghost use mathlib.Core.Path.{_≡_};
 ghost use Rattle.rules.specs.Answers.{stepWord, runWords, restartWord, appendWord};
 ghost use Rattle.rules.specs.Bus.{images};
-ghost use Rattle.rules.specs.Step.{step};
+ghost use Rattle.rules.specs.Step.{step, left, worded};
 ghost use Rattle.rules.specs.Run.{runOf};
 ghost use Rattle.rules.specs.Restart.{restart, appendAt};
-ghost use Rattle.step.specs.Parts.{left, worded};
 
 // "Step: 1 to 6 in order"
 #[no_mangle]

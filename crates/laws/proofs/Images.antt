@@ -84,7 +84,7 @@ pub record SameStep (x : Outcome StepAnswer (List ℕ)) (y : Outcome StepAnswer 
   pub accesses : x .accesses ≡ y .accesses
 
 finished-same : (lines : ℕ) (u : State) (buffer : List ℕ) (x : Ran (World (List ℕ)) Cpu) (y : Ran (World Chart) Cpu) → Ended Shown x y →
-    SameStep (finished images lines u x buffer) (finished charts lines u y buffer)
+    SameStep (finished lines u x buffer) (finished lines u y buffer)
 unfolding finished
 finished-same lines u buffer x y e =
     record {
@@ -98,9 +98,9 @@ pub step-same : (r m : List ℕ) (f : Chart) (lines pins : ℕ) (buffer : List �
     SameStep (step images r m lines pins buffer) (step charts r f lines pins buffer)
 unfolding step
 step-same r m f lines pins buffer h =
-    let u = stateNow charts r f lines pins in
+    let u = stateNow charts r f pins in
     let e = eventNow charts r f lines pins in
     rw (h .size, can-same m f h e u, opcode-same m f h u)
-    (tested-both SameStep (stepTests charts r f lines pins buffer) (refused images r m lines pins buffer) (refused charts r f lines pins buffer) _ _
+    (tested-both SameStep (stepTests charts r f lines pins buffer) (refused r m buffer) (refused r f buffer) _ _
     (λ d. record { answer = refl; state = refl; image = h; accesses = refl })
     (finished-same lines u buffer _ _ (ran-alike m f h e u)))

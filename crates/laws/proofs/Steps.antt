@@ -34,7 +34,7 @@ front-length l b h = simp (length-append, length-drop) (omega arith)
 
 module _ {M : Type 0} (memory : Memory M) (r : List ℕ) (m : M) (lines pins : ℕ) (buffer : List ℕ) where
   abbrev u : State
-  u = stateNow memory r m lines pins
+  u = stateNow memory r m pins
 
   abbrev e : Event
   e = eventNow memory r m lines pins
@@ -66,14 +66,14 @@ module _ {M : Type 0} (memory : Memory M) (r : List ℕ) (m : M) (lines pins : �
     pub stays : (d : Refusal) → o .answer ≡ Refused d → o ≡ record { answer = Refused d; state = r; image = m; accesses = buffer }
     pub moves : (n : ℕ) → o .answer ≡ Stepped n → Done o n
 
-  lawful-refused : (d : Refusal) → Lawful (refused memory r m lines pins buffer d)
+  lawful-refused : (d : Refusal) → Lawful (refused r m buffer d)
   lawful-refused d =
       record {
-        stays = λ d h. ap (refused memory r m lines pins buffer) (cc);
+        stays = λ d h. ap (refused r m buffer) (cc);
         moves = λ n h. let z : _≡_ {A = ℕ} 0 1 = cc in absurd (omega arith);
       }
 
-  finished-done : Hold (stepTests memory r m lines pins buffer) → Done (finished memory lines u (ranOf memory e u m) buffer) (length trace)
+  finished-done : Hold (stepTests memory r m lines pins buffer) → Done (finished lines u (ranOf memory e u m) buffer) (length trace)
   unfolding finished stateOf recordOf
   finished-done h =
       let n = length trace in
@@ -92,7 +92,7 @@ module _ {M : Type 0} (memory : Memory M) (r : List ℕ) (m : M) (lines pins : �
         most = seven;
         cycles = omega arith;
         record-size = refl;
-        record-formed = state-formed (stateAfter memory lines u ran) (at r 0) (at r 11) g (f .part) (f .pages) (level-fits (at r 0) lines pins fit);
+        record-formed = state-formed (stateAfter lines u ran) (at r 0) (at r 11) g (f .part) (f .pages) (level-fits (at r 0) lines pins fit);
         part = g .part;
         pages = g .protected;
         room = omega arith;
@@ -101,15 +101,15 @@ module _ {M : Type 0} (memory : Memory M) (r : List ℕ) (m : M) (lines pins : �
         size = front-length (listOf trace) buffer (omega arith);
       }
 
-  lawful-finished : Hold (stepTests memory r m lines pins buffer) → Lawful (finished memory lines u (ranOf memory e u m) buffer)
+  lawful-finished : Hold (stepTests memory r m lines pins buffer) → Lawful (finished lines u (ranOf memory e u m) buffer)
   unfolding finished
   lawful-finished h =
       record {
         stays = λ d q. let z : _≡_ {A = ℕ} 0 1 = cc in absurd (omega arith);
-        moves = λ n q. subst (Done (finished memory lines u (ranOf memory e u m) buffer)) (cc) (finished-done h);
+        moves = λ n q. subst (Done (finished lines u (ranOf memory e u m) buffer)) (cc) (finished-done h);
       }
 
   pub lawful : Lawful (step memory r m lines pins buffer)
   unfolding step
-  lawful = tested-case Lawful (stepTests memory r m lines pins buffer) (refused memory r m lines pins buffer) _ lawful-refused λ h.
+  lawful = tested-case Lawful (stepTests memory r m lines pins buffer) (refused r m buffer) _ lawful-refused λ h.
       lawful-finished h

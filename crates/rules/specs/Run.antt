@@ -11,42 +11,40 @@ use Rattle.rules.specs.declared.RunAnswer.{RunAnswer}
 use Rattle.rules.specs.declared.RunAnswer.the-variants.{Played, Stopped}
 use Rattle.rules.specs.Bus.{Memory}
 use Rattle.rules.specs.Answers.{Test, _unless_, tested}
-use Rattle.rules.specs.Step.{Outcome, recordTests, step}
+use Rattle.rules.specs.Step.{Outcome, left, worded, recordTests, step}
 
 -- the steps done and the accesses listed
 pub record Tally : Type 0 where
   pub steps : ℕ
   pub listed : ℕ
 
+-- a run that has not begun
+abbrev pub start : {M : Type 0} → List ℕ → M → List ℕ → Outcome Tally M
+start r m buffer = left (record { steps = 0; listed = 0 }) r m buffer
+
+-- where the run stands after that step o, of n accesses
+abbrev pub moved : {M : Type 0} → Outcome Tally M → Outcome StepAnswer M → ℕ → Outcome Tally M
+moved s o n =
+    left (record { steps = s .answer .steps + 1; listed = s .answer .listed + n }) (o .state) (o .image)
+    (take (8 * s .answer .listed) (s .accesses) ++ o .accesses)
+
+abbrev pub played : {M : Type 0} → Outcome Tally M → Outcome RunAnswer M
+played s = worded (λ t. Played (t .steps) (t .listed)) s
+
+-- "a refusal in a step ends it, with the steps done standing and counted"
+abbrev pub stopped : {M : Type 0} → Outcome Tally M → Refusal → Outcome RunAnswer M
+stopped s e = worded (λ t. Stopped (t .steps) (t .listed) e) s
+
+-- after a step o that answered so: the rest of the run, or its end
+abbrev pub goesOn : {M : Type 0} → (Outcome Tally M → Outcome RunAnswer M) → Outcome Tally M → Outcome StepAnswer M → StepAnswer →
+    Outcome RunAnswer M
+goesOn rest s o (Stepped n) = rest (moved s o n)
+goesOn rest s o (Refused e) = stopped s e
+
 module _ {M : Type 0} (memory : Memory M) where
   -- one step of a run that stands at s, into the rest of the access buffer
   abbrev pub stepAt : ℕ → ℕ → Outcome Tally M → Outcome StepAnswer M
   stepAt lines pins s = step memory (s .state) (s .image) lines pins (drop (8 * s .answer .listed) (s .accesses))
-
-  -- where the run stands after that step o, of n accesses
-  abbrev pub moved : Outcome Tally M → Outcome StepAnswer M → ℕ → Outcome Tally M
-  moved s o n =
-      record {
-        answer = record { steps = s .answer .steps + 1; listed = s .answer .listed + n };
-        state = o .state;
-        image = o .image;
-        accesses = take (8 * s .answer .listed) (s .accesses) ++ o .accesses;
-      }
-
-  abbrev pub ended : Outcome Tally M → RunAnswer → Outcome RunAnswer M
-  ended s a = record { answer = a; state = s .state; image = s .image; accesses = s .accesses }
-
-  abbrev pub played : Outcome Tally M → Outcome RunAnswer M
-  played s = ended s (Played (s .answer .steps) (s .answer .listed))
-
-  -- "a refusal in a step ends it, with the steps done standing and counted"
-  abbrev pub stopped : Outcome Tally M → Refusal → Outcome RunAnswer M
-  stopped s e = ended s (Stopped (s .answer .steps) (s .answer .listed) e)
-
-  -- after a step o that answered so: the rest of the run, or its end
-  abbrev pub goesOn : (Outcome Tally M → Outcome RunAnswer M) → Outcome Tally M → Outcome StepAnswer M → StepAnswer → Outcome RunAnswer M
-  goesOn rest s o (Stepped n) = rest (moved s o n)
-  goesOn rest s o (Refused e) = stopped s e
 
   -- step by step to the script's end; its length is even
   unfoldable pub play : List ℕ → Outcome Tally M → Outcome RunAnswer M
@@ -54,13 +52,9 @@ module _ {M : Type 0} (memory : Memory M) where
   play (lines ∷ []) s = played s
   play (lines ∷ pins ∷ script) s = let o = stepAt lines pins s in goesOn (λ t. play script t) s o (o .answer)
 
-  module _ (r : List ℕ) (m : M) (script buffer : List ℕ) where
-    abbrev pub start : Outcome Tally M
-    start = record { answer = record { steps = 0; listed = 0 }; state = r; image = m; accesses = buffer }
+  -- "Run: 1, 2, 3, 7 before anything"
+  abbrev pub runTests : List ℕ → M → List ℕ → List Test
+  runTests r m script = recordTests memory r m ++ ScriptLength unless eqb (length script % 2) 0 ∷ []
 
-    -- "Run: 1, 2, 3, 7 before anything"
-    abbrev pub runTests : List Test
-    runTests = recordTests memory r m ++ ScriptLength unless eqb (length script % 2) 0 ∷ []
-
-    unfoldable pub runOf : Outcome RunAnswer M
-    runOf = tested runTests (stopped start) (play script start)
+  unfoldable pub runOf : List ℕ → M → List ℕ → List ℕ → Outcome RunAnswer M
+  runOf r m script buffer = let s = start r m buffer in tested (runTests r m script) (stopped s) (play script s)

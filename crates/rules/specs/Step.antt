@@ -28,6 +28,17 @@ pub record Outcome (A M : Type 0) : Type 0 where
   pub image : M
   pub accesses : List ℕ
 
+abbrev pub left : {A M : Type 0} → A → List ℕ → M → List ℕ → Outcome A M
+left a r m l = record { answer = a; state = r; image = m; accesses = l }
+
+-- the same with the answer in other words
+abbrev pub worded : {A B M : Type 0} → (A → B) → Outcome A M → Outcome B M
+worded f o = left (f (o .answer)) (o .state) (o .image) (o .accesses)
+
+-- "no byte moves"
+abbrev pub refused : {M : Type 0} → List ℕ → M → List ℕ → Refusal → Outcome StepAnswer M
+refused r m buffer e = left (Refused e) r m buffer
+
 -- "The image is 65,536 bytes; for the 6509, k banks of that size, k = 1, 2, 4, 8 or 16"
 abbrev pub banksIn : ℕ → ℕ
 banksIn size = size / 65536
@@ -52,29 +63,24 @@ busAt Execute b = b
 abbrev pub front : List ℕ → List ℕ → List ℕ
 front l buffer = l ++ drop (length l) buffer
 
+-- "Every step stores the NMI level, answers its number of accesses and adds it to the record's count", "modulo 2^32"
+abbrev pub stateAfter : {M : Type 0} → ℕ → State → Ran (World M) Cpu → State
+stateAfter lines u ran =
+    record {
+      cpu = ran .value;
+      bus = ran .after .bus;
+      nmi = nmiOf lines;
+      cycles = (u .cycles + length (ran .list)) % 4294967296;
+    }
+
+unfoldable pub finished : {M : Type 0} → ℕ → State → Ran (World M) Cpu → List ℕ → Outcome StepAnswer M
+finished lines u ran buffer =
+    left (Stepped (length (ran .list))) (recordOf (stateAfter lines u ran)) (ran .after .image) (front (listOf (ran .list)) buffer)
+
 module _ {M : Type 0} (memory : Memory M) where
   -- a step's accesses, made
   abbrev pub ranOf : Event → State → M → Ran (World M) Cpu
   ranOf e u m = run (board memory) (cyclesOf e (u .cpu)) (world (busAt e (u .bus)) m)
-
-  -- "Every step stores the NMI level, answers its number of accesses and adds it to the record's count", "modulo 2^32"
-  abbrev pub stateAfter : ℕ → State → Ran (World M) Cpu → State
-  stateAfter lines u ran =
-      record {
-        cpu = ran .value;
-        bus = ran .after .bus;
-        nmi = nmiOf lines;
-        cycles = (u .cycles + length (ran .list)) % 4294967296;
-      }
-
-  unfoldable pub finished : ℕ → State → Ran (World M) Cpu → List ℕ → Outcome StepAnswer M
-  finished lines u ran buffer =
-      record {
-        answer = Stepped (length (ran .list));
-        state = recordOf (stateAfter lines u ran);
-        image = ran .after .image;
-        accesses = front (listOf (ran .list)) buffer;
-      }
 
   -- the opcode at PC
   abbrev pub opcodeOf : State → M → ℕ
@@ -94,25 +100,22 @@ module _ {M : Type 0} (memory : Memory M) where
         Malformed unless wellFormed r ∷
         ImageLength unless imageFits (at r 0) (memory .size m) ∷ []
 
-    module _ (lines pins : ℕ) where
-      abbrev pub stateNow : State
-      stateNow = stateOf r pins (banksIn (memory .size m))
+    abbrev pub stateNow : ℕ → State
+    stateNow pins = stateOf r pins (banksIn (memory .size m))
 
+    module _ (lines pins : ℕ) where
       abbrev pub eventNow : Event
-      eventNow = eventOf lines (stateNow .nmi) (stateNow .cpu)
+      eventNow = let u = stateNow pins in eventOf lines (u .nmi) (u .cpu)
 
       module _ (buffer : List ℕ) where
-        -- "no byte moves"
-        abbrev pub refused : Refusal → Outcome StepAnswer M
-        refused e = record { answer = Refused e; state = r; image = m; accesses = buffer }
-
         -- "Step: 1 to 6 in order; 6 adds PC and opcode"
         abbrev pub stepTests : List Test
         stepTests =
+            let u = stateNow pins in
             recordTests ++
             Lines unless linesFit (at r 0) lines pins ∷
             Room unless leb 56 (length buffer) ∷
-            Undefined (stateNow .cpu .pc) (opcodeOf stateNow m) unless canStep eventNow stateNow m ∷ []
+            Undefined (u .cpu .pc) (opcodeOf u m) unless canStep eventNow u m ∷ []
 
         unfoldable pub step : Outcome StepAnswer M
-        step = tested stepTests refused (finished lines stateNow (ranOf eventNow stateNow m) buffer)
+        step = let u = stateNow pins in tested stepTests (refused r m buffer) (finished lines u (ranOf eventNow u m) buffer)

@@ -12,17 +12,17 @@ use Rattle.rules.specs.Run.{start, stopped, runTests, play, runOf}
 use Rattle.checks.specs.declared.Checked.the-variants.{Refused}
 use Rattle.checks.specs.Checks.{fitOf, Fits}
 use Rattle.checks.proofs.Fits.{unfit}
-use Rattle.step.specs.Parts.{left}
+use Rattle.rules.specs.Step.{left}
 
 module _ (r m l s : List ℕ) where
   pub run-unfit : (e : Refusal) → Refused e ≡ fitOf r m → left (Stopped 0 0 e) r m l ≡ runOf images r m s l
   unfolding runOf
-  run-unfit e h = sym (unfit r m (drop 3 (runTests images r m s l)) (stopped images (start images r m s l)) _ e h)
+  run-unfit e h = sym (unfit r m (drop 3 (runTests images r m s)) (stopped (start r m l)) _ e h)
 
   pub odd : Fits r m → (length s % 2 ≡ 0 → ⊥) → left (Stopped 0 0 ScriptLength) r m l ≡ runOf images r m s l
   unfolding runOf
   odd f h = rw (eq-eqb (length r) 16 (f .whole), f .formed, f .image, ne-eqb (length s % 2) 0 h)
 
-  pub even : Fits r m → length s % 2 ≡ 0 → play images s (start images r m s l) ≡ runOf images r m s l
+  pub even : Fits r m → length s % 2 ≡ 0 → play images s (start r m l) ≡ runOf images r m s l
   unfolding runOf
   even f h = rw (eq-eqb (length r) 16 (f .whole), f .formed, f .image, eq-eqb (length s % 2) 0 h)

@@ -1,9 +1,8 @@
 -- Where a run stands.
 use Prim.Native.Nat.{ℕ, _/_}
 use mathlib.Core.List.{List}
-use Rattle.rules.specs.Step.{Outcome}
+use Rattle.rules.specs.Step.{Outcome, left}
 use Rattle.rules.specs.Run.{Tally}
-use Rattle.step.specs.Parts.{left}
 
 -- i bytes of the script are played, and so many accesses listed
 abbrev pub standing : ℕ → ℕ → List ℕ → List ℕ → List ℕ → Outcome Tally (List ℕ)

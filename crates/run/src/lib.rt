@@ -9,10 +9,9 @@ ghost use lib.ListN.{length};
 ghost use Rattle.rules.specs.declared.RunAnswer.the-variants.{Stopped};
 ghost use Rattle.rules.specs.Answers.{stepWord};
 ghost use Rattle.rules.specs.Bus.{images};
-ghost use Rattle.rules.specs.Step.{step};
+ghost use Rattle.rules.specs.Step.{step, left, worded};
 ghost use Rattle.rules.specs.Run.{start, play, runOf};
 ghost use Rattle.checks.specs.Checks.{Fits};
-ghost use Rattle.step.specs.Parts.{left, worded};
 ghost use Rattle.run.specs.Words.{tallied};
 
 // Puts down the steps done and the accesses listed.
@@ -55,7 +54,7 @@ fn play(
     tally: &mut [u64; 2],
 ) -> u64
     requires { ⌜ Fits (now state) (now image) × (length (now script) % 2 ≡ 0) ⌝ }
-    ensures { λ r. ⌜ left (r, now (tally .exit)) (now (state .exit)) (now (image .exit)) (now (accesses .exit)) ≡ worded tallied (play images (now (script .entry)) (start images (now (state .entry)) (now (image .entry)) (now (script .entry)) (now (accesses .entry)))) ⌝ }
+    ensures { λ r. ⌜ left (r, now (tally .exit)) (now (state .exit)) (now (image .exit)) (now (accesses .exit)) ≡ worded tallied (play images (now (script .entry)) (start (now (state .entry)) (now (image .entry)) (now (accesses .entry)))) ⌝ }
 {
     let mut i: usize = 0;
     let mut listed: usize = 0;

@@ -18,12 +18,12 @@ ghost use Rattle.rules.specs.Answers.{stepWord, refusalWord};
 ghost use Rattle.rules.specs.Interrupts.{irqOf, eventOf, interrupt, reset};
 ghost use Rattle.rules.specs.Bus.{images, resetBus};
 ghost use Rattle.rules.specs.Record.{long, recordOf};
-ghost use Rattle.rules.specs.Step.{opcodeOf, step};
+ghost use Rattle.rules.specs.Step.{opcodeOf, step, left, worded};
 ghost use Rattle.checks.specs.Checks.{Fits};
 ghost use Rattle.laws.specs.Goes.{Does};
 ghost use Rattle.laws.specs.States.{moved};
 ghost use Rattle.processor.specs.Executed.{Begins};
-ghost use Rattle.step.specs.Parts.{resetOf, counted, Sized, Counted, Taken, left, worded, advanced};
+ghost use Rattle.step.specs.Parts.{resetOf, counted, Sized, Counted, Taken, advanced};
 
 // "IRQ with I = 0"
 fn irq_event(lines: u8, i: bool) -> Event

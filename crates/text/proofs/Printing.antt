@@ -12,12 +12,11 @@ use Rattle.rules.specs.Basics.{at}
 use Rattle.rules.specs.Answers.{stepWord}
 use Rattle.rules.specs.Bus.{images}
 use Rattle.rules.specs.Record.{wellFormed}
-use Rattle.rules.specs.Step.{Outcome, front, step}
+use Rattle.rules.specs.Step.{Outcome, front, step, left, worded}
 use Rattle.laws.proofs.Lists.{rest-lent}
 use Rattle.laws.proofs.Steps.{lawful}
 use Rattle.checks.specs.Checks.{Fits}
 use Rattle.words.proofs.Laws.{counted}
-use Rattle.step.specs.Parts.{left, worded}
 use Rattle.rules.specs.Text.{textOf, refusalLine, stepText, printed}
 use Rattle.characters.specs.Shown.{Shows}
 use Rattle.text.specs.Print.{printout, used, printing}

@@ -1,8 +1,8 @@
 pub mod Admission
 pub mod Arithmetic
 pub mod Board
-pub mod Reads
-pub mod Writes
+pub mod Reading
+pub mod Writing
 pub mod Bytes
 pub mod Characters
 pub mod Checks

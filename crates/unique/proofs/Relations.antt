@@ -13,13 +13,12 @@ use Rattle.rules.specs.Cycles.{Bank, Cycles, Ran, run}
 use Rattle.rules.specs.Bus.{World, world, images, board, listOf}
 use Rattle.rules.specs.Record.{recordOf}
 use Rattle.rules.specs.Opcodes.{decode, isDefined}
-use Rattle.rules.specs.Step.{Outcome, opcodeOf}
+use Rattle.rules.specs.Step.{Outcome, opcodeOf, left}
 use Rattle.wiring.specs.declared.Wiring.{Wiring}
 use Rattle.laws.specs.Goes.{Goes, Writes, Does}
 use Rattle.laws.specs.States.{moved}
 use Rattle.wiring.specs.Wiring.{Banked, banked, Wired}
 use Rattle.processor.specs.Executed.{Executed}
-use Rattle.step.specs.Parts.{left}
 
 -- what `Goes` says of an exit
 pub record End (A : Type 0) : Type 0 where

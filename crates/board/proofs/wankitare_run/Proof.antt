@@ -3,7 +3,7 @@ use mathlib.Core.Path.{ap}
 use mathlib.Core.List.{List}
 use Rattle.rules.specs.Basics.{at}
 use Rattle.rules.specs.Answers.{RunWords}
-use Rattle.step.specs.Parts.{worded}
+use Rattle.rules.specs.Step.{worded}
 use borrow.Author.Needs.{needs}
 use Rattle.board.proofs.wankitare_run.Statement.{statement}
 use Rattle.board.proofs.wankitare_run.Tie as tie

@@ -8,7 +8,7 @@ use Rattle.rules.specs.Bus.{images}
 use Rattle.rules.specs.Run.{start, play}
 use Rattle.laws.proofs.Lists.{rest-back}
 use Rattle.checks.specs.Checks.{Fits}
-use Rattle.step.specs.Parts.{worded}
+use Rattle.rules.specs.Step.{worded}
 use Rattle.run.specs.Plays.{standing}
 use Rattle.run.specs.Words.{tallied}
 use Rattle.run.proofs.Plays.{lent, told-stepped, told-refused, goes-on, still-fits, still-room, stops, ends}
@@ -24,7 +24,7 @@ record Running (state₀ image₀ script accesses₀ state image accesses : List
   state-size : length state ≡ length state₀
   image-size : length image ≡ length image₀
   accesses-size : length accesses ≡ length accesses₀
-  plays : play images script (start images state₀ image₀ script accesses₀) ≡ play images (drop i script) (standing i listed state image accesses)
+  plays : play images script (start state₀ image₀ accesses₀) ≡ play images (drop i script) (standing i listed state image accesses)
 
 abbrev Inv-loop : tie.InvT-loop
 Inv-loop state₀ image₀ script accesses₀ tally₀ i₀ listed₀ state image accesses tally i listed =

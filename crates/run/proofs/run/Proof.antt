@@ -1,6 +1,6 @@
 use Rattle.run.proofs.Firsts.{odd, even, run-unfit}
 use Rattle.run.specs.Words.{tallied}
-use Rattle.step.specs.Parts.{worded}
+use Rattle.rules.specs.Step.{worded}
 use Rattle.checks.proofs.Fits.{fits}
 use denote.Ref.{now}
 use mathlib.Core.Path.{sym, ap, _∙_}
