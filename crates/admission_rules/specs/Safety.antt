@@ -79,14 +79,14 @@ stackedAfter (pushes n) k = record { pushed = k .pushed + n; pulled = k .pulled 
 stackedAfter (pulls n) k = record { pushed = k .pushed; pulled = k .pulled + n }
 
 -- the addresses that n pushes from S on write
-abbrev pub pushed : ℕ → ℕ → List ℕ
-pushed zero s = []
-pushed (suc n) s = stack s ∷ pushed n (down 1 s)
+abbrev pub pushAddresses : ℕ → ℕ → List ℕ
+pushAddresses zero s = []
+pushAddresses (suc n) s = stack s ∷ pushAddresses n (down 1 s)
 
 abbrev pub pushesOf : Effect → ℕ → List ℕ
 pushesOf none s = []
 pushesOf clears s = []
-pushesOf (pushes n) s = pushed n s
+pushesOf (pushes n) s = pushAddresses n s
 pushesOf (pulls n) s = []
 
 -- the addresses in the stack page that the first n accesses of a list write
