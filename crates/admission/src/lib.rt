@@ -146,7 +146,7 @@ fn verdict(image: &[u8], c: u8, map: &[u8]) -> Verdict
     judge(image, c, map)
 }
 
-// Demand 3: it "accepts exactly by the map's rules", and what it accepts is safe in every sequence of steps and runs.
+// Demand 3: it "accepts exactly when all the rules above hold", and what it accepts is safe in every sequence of steps and runs.
 pub fn admit(image: &[u8], c: u8, map: &[u8]) -> Verdict
     ensures exact { λ r. ⌜ r ≡ admit images (now (image .entry)) c (now (map .entry)) ⌝ }
     ensures safe { λ r. ⌜ (r ≡ Verdict.Accepted → Safe (now (image .entry)) c (now (map .entry))) ⌝ }
