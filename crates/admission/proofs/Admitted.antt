@@ -10,7 +10,7 @@ use Rattle.rules.specs.declared.Verdict.the-variants.{Accepted, Barred}
 use Rattle.rules.specs.Answers.{_unless_, tested}
 use Rattle.rules.specs.Bus.{images}
 use Rattle.laws.proofs.Tests.{tested-append}
-use Rattle.admission_rules.specs.Admission.{marksIn, ofRecords, formTests, inputFits, vectorsHold, ruleTests, admit}
+use Rattle.admission_rules.specs.Admission.{marksIn, ofRecords, markTests, inputFits, vectorsHold, ruleTests, admit}
 use Rattle.admission_rules.proofs.Admissions.{fits}
 use Rattle.admission.specs.Maps.{Formed}
 use Rattle.admission.proofs.Forms.{malformed, all-formed}
@@ -25,20 +25,20 @@ module _ (m : List ℕ) (c : ℕ) (map : List ℕ) where
     lengths-fit = let f = fits m c map fit in (f .whole, f .few)
 
     abbrev rest : Verdict
-    rest = tested (Vectors unless vectorsHold images m c map ∷ ofRecords (ruleTests images m c map) 0 (marksIn map)) Barred Accepted
+    rest = tested (Vectors unless vectorsHold images m map ∷ ofRecords (ruleTests images m c map) 0 (marksIn map)) Barred Accepted
 
-    forms-first : admit images m c map ≡ tested (ofRecords (formTests map) 0 (marksIn map)) Barred rest
+    forms-first : admit images m c map ≡ tested (ofRecords (markTests map) 0 (marksIn map)) Barred rest
     unfolding admit
-    forms-first = rw fit (tested-append (ofRecords (formTests map) 0 (marksIn map)) _ Barred Accepted)
+    forms-first = rw fit (tested-append (ofRecords (markTests map) 0 (marksIn map)) _ Barred Accepted)
 
     module _ (r : ℕ) (f : Formed map r) where
       pub bad-record : r < marksIn map → admit images m c map ≡ Barred (MapRecord r)
       bad-record h = forms-first ∙ malformed map r f rest h
 
       module _ (all : marksIn map ≤ r) where
-        pub bad-vectors : vectorsHold images m c map ≡ false → admit images m c map ≡ Barred Vectors
+        pub bad-vectors : vectorsHold images m map ≡ false → admit images m c map ≡ Barred Vectors
         bad-vectors h = forms-first ∙ all-formed map r f rest all ∙ (rw h)
 
-        pub records-left : vectorsHold images m c map ≡ true →
+        pub records-left : vectorsHold images m map ≡ true →
             admit images m c map ≡ tested (ofRecords (ruleTests images m c map) 0 (marksIn map)) Barred Accepted
         records-left h = forms-first ∙ all-formed map r f rest all ∙ (rw h)

@@ -13,7 +13,7 @@ use Rattle.rules.specs.declared.Verdict.{Verdict}
 use Rattle.rules.specs.declared.Verdict.the-variants.{Barred}
 use Rattle.rules.specs.Basics.{if_then_else_, at}
 use Rattle.rules.specs.Answers.{tested}
-use Rattle.admission_rules.specs.Admission.{main, handler, markAt, marksIn, ascends, ofRecords, formTests}
+use Rattle.admission_rules.specs.Admission.{main, handler, markAt, marksIn, ascends, ofRecords, markTests}
 use Rattle.laws.proofs.Tests.{and-right}
 use Rattle.admission.specs.Maps.{shaped, formed, Formed, Ascending}
 use Rattle.admission.proofs.Judged.{from, no-record, record-first}
@@ -28,35 +28,35 @@ joined true false c d e f x y = refl
 joined false b c d e f x y = refl
 
 module _ (map : List ℕ) where
-  form-is : (i : ℕ) (v : Verdict) → tested (formTests map i) Barred v ≡ (if formed map i then v else Barred (MapRecord i))
-  unfolding formTests
+  form-is : (i : ℕ) (v : Verdict) → tested (markTests map i) Barred v ≡ (if formed map i then v else Barred (MapRecord i))
+  unfolding markTests
   form-is i v =
       joined (leb main (markAt map i .kind)) (leb (markAt map i .kind) handler) (eqb (at map (8 * i + 5)) 0) (eqb (at map (8 * i + 6)) 0)
       (eqb (at map (8 * i + 7)) 0) (ascends map i) v (Barred (MapRecord i))
 
   -- the records before r are formed
   past : (r n : ℕ) (v : Verdict) → r ≤ n → ((k : ℕ) → k < r → formed map k ≡ true) →
-      tested (ofRecords (formTests map) 0 n) Barred v ≡ from (formTests map) r n v
+      tested (ofRecords (markTests map) 0 n) Barred v ≡ from (markTests map) r n v
   past zero n v h b = rw (sub-zero n)
   past (suc r) n v h b =
       let s : r + 1 ≡ suc r = omega arith in
-      past r n v (omega arith) (λ k l. b k (omega arith)) ∙ record-first (formTests map) r n v (omega arith)
-      ∙ form-is r (from (formTests map) (r + 1) n v) ∙ (rw (b r (omega arith), s))
+      past r n v (omega arith) (λ k l. b k (omega arith)) ∙ record-first (markTests map) r n v (omega arith)
+      ∙ form-is r (from (markTests map) (r + 1) n v) ∙ (rw (b r (omega arith), s))
 
   module _ (r : ℕ) (f : Formed map r) (v : Verdict) where
     abbrev forms : Verdict
-    forms = tested (ofRecords (formTests map) 0 (marksIn map)) Barred v
+    forms = tested (ofRecords (markTests map) 0 (marksIn map)) Barred v
 
-    reaches : forms ≡ from (formTests map) r (marksIn map) v
+    reaches : forms ≡ from (markTests map) r (marksIn map) v
     reaches = past r (marksIn map) v (f .within) (f .before)
 
     pub malformed : r < marksIn map → forms ≡ Barred (MapRecord r)
     malformed h =
-        let later = from (formTests map) (r + 1) (marksIn map) v in
-        reaches ∙ record-first (formTests map) r (marksIn map) v h ∙ form-is r later ∙ (rw (f .bad h))
+        let later = from (markTests map) (r + 1) (marksIn map) v in
+        reaches ∙ record-first (markTests map) r (marksIn map) v h ∙ form-is r later ∙ (rw (f .bad h))
 
     pub all-formed : marksIn map ≤ r → forms ≡ v
-    all-formed h = reaches ∙ no-record (formTests map) r (marksIn map) v h
+    all-formed h = reaches ∙ no-record (markTests map) r (marksIn map) v h
 
   pub ascending : (r : ℕ) → Formed map r → marksIn map ≤ r → Ascending map
   ascending r f h = record { ascends = go }

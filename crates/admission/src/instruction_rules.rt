@@ -15,7 +15,7 @@ ghost use Rattle.rules.specs.declared.Instruction.the-variants.{AtStack};
 ghost use Rattle.rules.specs.declared.Refusal.the-variants.{StoreAddress, Stack};
 ghost use Rattle.rules.specs.Basics.{if_then_else_, address};
 ghost use Rattle.admission_rules.specs.declared.Rules.the-variants.{Broken, Leads};
-ghost use Rattle.admission_rules.specs.Admission.{one, outside, stored, goesTo, goesOn, goesUp, goesDown, calls, isAtZero, rulesOf};
+ghost use Rattle.admission_rules.specs.Admission.{one, outside, storeRules, goesTo, goesOn, goesUp, goesDown, calls, isAtZero, rulesOf};
 ghost use Rattle.admission.specs.Sizes.{modeSize, sizeIn};
 
 fn mode_size(mode: Mode) -> u16
@@ -133,8 +133,8 @@ fn unless_inside(least: u16, low: u8, high: u8, i: u16, r: Rules) -> Rules
 }
 
 // 14: "Stores, shifts, INC, DEC: absolute address not 0100 to 01FF; a,X or a,Y base not 0001 to 01FF"; and 13: "not .. 81, 91".
-fn stored(mode: Mode, i: u16, r: Rules) -> Rules
-    ensures { λ q. ⌜ q ≡ stored i mode r ⌝ }
+fn store_rules(mode: Mode, i: u16, r: Rules) -> Rules
+    ensures { λ q. ⌜ q ≡ storeRules i mode r ⌝ }
 {
     match mode {
         Mode::IndirectX(z) => Rules::Broken(Refusal::Place(i)),
@@ -203,8 +203,8 @@ pub(crate) fn rules_for(instruction: Instruction, second: u8, m: Mark, next: u16
     let on = one(next_one);
     match instruction {
         Instruction::Read(o, mode) => on,
-        Instruction::Store(o, mode) => stored(mode, i, on),
-        Instruction::Change(o, mode) => stored(mode, i, on),
+        Instruction::Store(o, mode) => store_rules(mode, i, on),
+        Instruction::Change(o, mode) => store_rules(mode, i, on),
         Instruction::Accumulator(o) => on,
         Instruction::Implied(o) => on,
         Instruction::AtStack(o) => rules_for_stacking(o, m, next, i),

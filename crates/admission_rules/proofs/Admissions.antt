@@ -12,7 +12,7 @@ use Rattle.rules.specs.declared.Verdict.{Verdict}
 use Rattle.rules.specs.declared.Verdict.the-variants.{Accepted, Barred}
 use Rattle.rules.specs.Bus.{Memory, images}
 use Rattle.rules.specs.Answers.{Test, _unless_}
-use Rattle.admission_rules.specs.Admission.{marksIn, ofRecords, formTests, inputFits, vectorsHold, ruleTests, admissionTests, admit}
+use Rattle.admission_rules.specs.Admission.{marksIn, ofRecords, markTests, inputFits, vectorsHold, ruleTests, admissionTests, admit}
 use Rattle.laws.proofs.Tests.{six, Hold, tested-case, tested-all}
 
 -- "image length, c, map length 0, over 65,536 or no multiple of 8", each part by itself
@@ -72,14 +72,14 @@ module _ {M : Type 0} (memory : Memory M) (m : M) (c : ℕ) (map : List ℕ) whe
   -- all the rules, with no order among them
   pub record AllRules : Type 0 where
     pub input : inputFits memory m c map ≡ true
-    pub forms : (i : ℕ) → i < n → Hold (formTests map i)
-    pub vectors : vectorsHold memory m c map ≡ true
+    pub forms : (i : ℕ) → i < n → Hold (markTests map i)
+    pub vectors : vectorsHold memory m map ≡ true
     pub records : (i : ℕ) → i < n → Hold (ruleTests memory m c map i)
 
   hold-all : AllRules → Hold tests
   hold-all a = (
     a .input,
-    hold-both (ofRecords (formTests map) 0 n) _ (records-hold (formTests map) 0 n (λ i l. from-zero (formTests map) i (a .forms i l)))
+    hold-both (ofRecords (markTests map) 0 n) _ (records-hold (markTests map) 0 n (λ i l. from-zero (markTests map) i (a .forms i l)))
         (a .vectors, records-hold (ruleTests memory m c map) 0 n (λ i l. from-zero (ruleTests memory m c map) i (a .records i l))),
   )
     where
@@ -88,11 +88,11 @@ module _ {M : Type 0} (memory : Memory M) (m : M) (c : ℕ) (map : List ℕ) whe
 
   all-hold : Hold tests → AllRules
   all-hold h =
-      let forms = ofRecords (formTests map) 0 n in
-      let later = Vectors unless vectorsHold memory m c map ∷ ofRecords (ruleTests memory m c map) 0 n in
+      let forms = ofRecords (markTests map) 0 n in
+      let later = Vectors unless vectorsHold memory m map ∷ ofRecords (ruleTests memory m c map) 0 n in
       record {
         input = h .0;
-        forms = λ i l. to-zero (formTests map) i (record-holds (formTests map) 0 n (hold-left forms later (h .1)) i l);
+        forms = λ i l. to-zero (markTests map) i (record-holds (markTests map) 0 n (hold-left forms later (h .1)) i l);
         vectors = hold-right forms later (h .1) .0;
         records = λ i l. to-zero (ruleTests memory m c map) i (record-holds (ruleTests memory m c map) 0 n (hold-right forms later (h .1) .1) i l);
       }

@@ -8,7 +8,7 @@ use Rattle.rules.specs.Bus.{Chart, charts}
 use Rattle.rules.specs.Answers.{verdictWord}
 use Rattle.rules.proofs.Opened.{opened}
 use Rattle.rules.proofs.Examples.{same, failing, zeros, _from_holds_}
-use Rattle.admission_rules.specs.Admission.{formTests, vectorsHold, rulesOf, rulesAt, admit}
+use Rattle.admission_rules.specs.Admission.{markTests, vectorsHold, rulesOf, rulesAt, admit}
 
 -- A firmware of page FF, with c = 1, and its map: main at FF00, a routine at FF20, a handler at FF30.
 
@@ -90,5 +90,5 @@ maps =
     ∷ []
 
 computed-maps : failing 1 maps ≡ []
-unfolding opened formTests vectorsHold rulesAt admit
+unfolding opened markTests vectorsHold rulesAt admit
 computed-maps = refl

@@ -31,7 +31,7 @@ use Rattle.admission_rules.proofs.Ends.{End, ends}
 use Rattle.admission_rules.proofs.Places.{Bytes, unbroken}
 use Rattle.admission_rules.proofs.Plain.{p-byte}
 use Rattle.admission_rules.proofs.Shapes.{gives, decode-gives, decode-late, on-one, instruction-ends}
-use Rattle.admission_rules.proofs.Performs.{Image, Ready, Done, stack-open, stack-page, pushed-image, n, performs, does-jsr}
+use Rattle.admission_rules.proofs.Performs.{Image, Ready, Done, stack-open, stack-page, pushed-image, ended, n, performs, does-jsr}
 
 -- a later byte of an instruction in protected pages is protected too
 protected-on : (c a j : ℕ) → isProtected c a ≡ true → a + j < 65536 → isProtected c (sum16 a j) ≡ true
@@ -185,35 +185,21 @@ module _ (m₀ : List ℕ) (c : ℕ) (map : List ℕ) (ad : Admitted m₀ c map)
           stack-page m₀ c map ad (down 1 (u .s)) s₁,
           stack-page m₀ c map ad (down 2 (u .s)) s₂,
         )
-        (record {
-          only = ap (λ (t : ℕ). stack (u .s) ∷ stack (down 1 (u .s)) ∷ stack t ∷ []) (sym (lower (u .s) 1 (r .s) (omega arith)));
-          next =
-              record {
-                stands =
-                    interrupts map (ad .N) (u .s) (u .p .i) (u .pc) m k s clear (r .s) (g .image .size) (byteOf (u .p)) (u .pc % 256)
-                    (u .pc / 256) (address (at m₃ 0xFFFE) (at m₃ 0xFFFF)) (ad .H) whole (ad .room)
-                    (rw (image₃ .code 0xFFFE (vector-protected 0xFFFE refl), image₃ .code 0xFFFF (vector-protected 0xFFFF refl))
-                    (ad .serves));
-                registers = record { a = r .a; x = r .x; y = r .y; s = omega arith };
-                image = image₃;
-              };
-        })
+        (ended m₀ c map ad r (r .a) (omega arith)
+        (ap (λ (t : ℕ). stack (u .s) ∷ stack (down 1 (u .s)) ∷ stack t ∷ []) (sym (lower (u .s) 1 (r .s) (omega arith))))
+        (interrupts map (ad .N) (u .s) (u .p .i) (u .pc) m k s clear (r .s) (g .image .size) (byteOf (u .p)) (u .pc % 256)
+        (u .pc / 256) (address (at m₃ 0xFFFE) (at m₃ 0xFFFF)) (ad .H) whole (ad .room)
+        (rw (image₃ .code 0xFFFE (vector-protected 0xFFFE refl), image₃ .code 0xFFFF (vector-protected 0xFFFF refl)) (ad .serves)))
+        image₃)
 
   -- RES: three reads of the stack in place of the pushes
   started : (u : Cpu) (m : List ℕ) (k : Stacked) → Bytes u → Image m₀ c map ad m → Done m₀ c map ad clears (u .s) k (ends c (reset u) m)
   unfolding reset enter ends _>>=_
   started u m k r i =
-      record {
-        only = refl;
-        next =
-            record {
-              stands =
-                  starts map (ad .N) (down 3 (u .s)) true (address (at m 0xFFFC) (at m 0xFFFD)) m
-                  (rw (i .code 0xFFFC (vector-protected 0xFFFC refl), i .code 0xFFFD (vector-protected 0xFFFD refl)) (ad .starts));
-              registers = record { a = r .a; x = r .x; y = r .y; s = omega arith };
-              image = i;
-            };
-      }
+      ended m₀ c map ad r (r .a) (omega arith) refl
+      (starts map (ad .N) (down 3 (u .s)) true (address (at m 0xFFFC) (at m 0xFFFD)) m
+      (rw (i .code 0xFFFC (vector-protected 0xFFFC refl), i .code 0xFFFD (vector-protected 0xFFFD refl)) (ad .starts)))
+      i
 
   -- a step that takes the event e, where k bytes were on the stack
   pub record Well (e : Event) (u : Cpu) (m : List ℕ) (k : Stacked) : Type 0 where

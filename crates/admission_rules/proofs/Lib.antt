@@ -10,5 +10,4 @@ pub mod Shapes
 pub mod Performs
 pub mod Events
 pub mod Safe
-pub mod SafeRuns
 pub mod Cases

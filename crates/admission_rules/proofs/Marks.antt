@@ -10,7 +10,7 @@ use lib.ListN.{length}
 use Rattle.rules.specs.declared.Verdict.the-variants.{Accepted}
 use Rattle.rules.specs.Bus.{images}
 use Rattle.admission_rules.specs.declared.Mark.{Mark}
-use Rattle.admission_rules.specs.Admission.{main, handler, markAt, marksIn, some, isMark, wordAt, vectorsHold, ruleTests, admit}
+use Rattle.admission_rules.specs.Admission.{main, handler, markAt, marksIn, some, isMark, vectorAt, vectorsHold, ruleTests, admit}
 use Rattle.laws.proofs.Tests.{and-left, and-right, Hold}
 use Rattle.admission_rules.proofs.Admissions.{fits, accepted}
 use Rattle.admission_rules.proofs.Stacks.{Leads}
@@ -63,8 +63,8 @@ pub record Admitted (m : List ℕ) (c : ℕ) (map : List ℕ) : Type 0 where
   -- the needs of the main program and of the handler
   pub N : ℕ
   pub H : ℕ
-  pub starts : Leads map (wordAt images m c map 0xFFFC) main 0 0 N
-  pub serves : Leads map (wordAt images m c map 0xFFFE) handler 0 0 H
+  pub starts : Leads map (vectorAt images m 0xFFFC) main 0 0 N
+  pub serves : Leads map (vectorAt images m 0xFFFE) handler 0 0 H
   pub room : N + H + 3 ≤ 256
 
 module _ (m : List ℕ) (c : ℕ) (map : List ℕ) where
@@ -72,10 +72,10 @@ module _ (m : List ℕ) (c : ℕ) (map : List ℕ) where
   n = marksIn map
 
   abbrev isMain : Mark → Bool
-  isMain r = isMark (wordAt images m c map 0xFFFC) main 0 r
+  isMain r = isMark (vectorAt images m 0xFFFC) main 0 r
 
   abbrev isHandler : Mark → Bool
-  isHandler h = isMark (wordAt images m c map 0xFFFE) handler 0 h
+  isHandler h = isMark (vectorAt images m 0xFFFE) handler 0 h
 
   abbrev serves : Mark → Mark → Bool
   serves r h = isHandler h && leb (r .need + h .need + 3) 256

@@ -8,6 +8,7 @@ use borrow.Author.Tests.{lt-leb, leb-true, eq-eqb, eqb-true}
 use lib.Dec.{leb, eqb}
 use lib.ListN.{length, set, length-set}
 use lib.Seq.{getD-set-other}
+use Rattle.rules.specs.declared.Flags.{Flags}
 use Rattle.rules.specs.declared.Cpu.{Cpu}
 use Rattle.rules.specs.declared.Mode.{Mode}
 use Rattle.rules.specs.declared.Reading.{Reading}
@@ -76,6 +77,13 @@ module _ (m₀ : List ℕ) (c : ℕ) (map : List ℕ) (ad : Admitted m₀ c map)
         code = λ q h.
             getD-set-other m (stack s) q x 0 (λ e. false≢true (sym (stack-open s hs) ∙ ap (isProtected c) (sym e) ∙ h)) ∙ i .code q h;
       }
+
+  -- an end at which X and Y are as they were
+  pub ended : {e : Effect} {u : Cpu} {k : Stacked} {a s pc : ℕ} {f : Flags} {m l : List ℕ} → Bytes u → a < 256 → s < 256 →
+      l ≡ pushesOf e (u .s) → Stands map (ad .N) s (f .i) pc m (stackedAfter e k) → Image m →
+      Done e (u .s) k (record { value = record { a = a; x = u .x; y = u .y; s = s; p = f; pc = pc }; image = m; writes = l })
+  ended b ha hs only stands image =
+      record { only = only; next = record { stands = stands; registers = record { a = ha; x = b .x; y = b .y; s = hs }; image = image } }
 
   module _ (u : Cpu) (m : List ℕ) (k : Stacked) (g : Ready u m k) where
     abbrev pub v : Stands map (ad .N) (u .s) (u .p .i) (u .pc) m k
@@ -197,18 +205,12 @@ module _ (m₀ : List ℕ) (c : ℕ) (map : List ℕ) (ad : Admitted m₀ c map)
     does-push : (x : ℕ) → x < 256 → reached map (goesUp mark n) ≡ true → Done (pushes 1) (u .s) k (ends c (push x w) m)
     unfolding push ends _>>=_
     does-push x h f =
-        let s = g .registers .s in
+        let r = g .registers in
         let up = leads-to map n (mark .kind) (mark .height + 1) 1 (mark .need) f in
-        rw (stack-open (u .s) s, stack-page (u .s) s)
-        (record {
-          only = refl;
-          next =
-              record {
-                stands = pushes-one map (ad .N) (u .s) (u .p .i) (u .pc) m k v few s (g .image .size) x n up;
-                registers = let r = g .registers in record { a = r .a; x = r .x; y = r .y; s = omega arith };
-                image = pushed-image m (u .s) x s h (g .image);
-              };
-        })
+        rw (stack-open (u .s) (r .s), stack-page (u .s) (r .s))
+        (ended r (r .a) (omega arith) refl
+        (pushes-one map (ad .N) (u .s) (u .p .i) (u .pc) m k v few (r .s) (g .image .size) x n up)
+        (pushed-image m (u .s) x (r .s) h (g .image)))
 
     -- a rule of 15 holds, and the rules r behind it
     behind : (b : Bool) (r : Rules) → Hold (testsOf map (v .i) (if b then r else rules.Broken (Stack (v .i)))) →
@@ -219,17 +221,10 @@ module _ (m₀ : List ℕ) (c : ℕ) (map : List ℕ) (ad : Admitted m₀ c map)
     unfolding perform pull ends _>>=_
     does-pla t =
         let b = behind (leb 1 (mark .height)) (one (goesDown mark n)) t in
-        record {
-          only = refl;
-          next =
-              record {
-                stands =
-                    pulls-one map (ad .N) (u .s) (u .p .i) (u .pc) m k v n (leb-true 1 (mark .height) (b .0))
-                    (leads-to map n (mark .kind) (mark .height - 1) 0 (mark .need + 1) (b .1 .0));
-                registers = let r = g .registers in record { a = g .image .bytes _; x = r .x; y = r .y; s = omega arith };
-                image = g .image;
-              };
-        }
+        ended (g .registers) (g .image .bytes _) (omega arith) refl
+        (pulls-one map (ad .N) (u .s) (u .p .i) (u .pc) m k v n (leb-true 1 (mark .height) (b .0))
+        (leads-to map n (mark .kind) (mark .height - 1) 0 (mark .need + 1) (b .1 .0)))
+        (g .image)
 
     abbrev none-follows : Rules
     none-follows = rules.Leads 0 (goesOn mark n) (goesOn mark n)
@@ -244,29 +239,16 @@ module _ (m₀ : List ℕ) (c : ℕ) (map : List ℕ) (ad : Admitted m₀ c map)
     unfolding perform rts ends _>>=_
     does-rts t =
         let z = at-zero routine (behind (isAtZero mark routine) none-follows t .0) in
-        record {
-          only = refl;
-          next =
-              record {
-                stands = returns map (ad .N) (u .s) (u .p .i) (u .pc) m k v (z .0) (z .1);
-                registers = let r = g .registers in record { a = r .a; x = r .x; y = r .y; s = omega arith };
-                image = g .image;
-              };
-        }
+        let r = g .registers in
+        ended r (r .a) (omega arith) refl (returns map (ad .N) (u .s) (u .p .i) (u .pc) m k v (z .0) (z .1)) (g .image)
 
     does-rti : Ruled (AtStack Rti) → Does (AtStack Rti)
     unfolding perform rti ends _>>=_
     does-rti t =
         let z = at-zero handler (behind (isAtZero mark handler) none-follows t .0) in
-        record {
-          only = refl;
-          next =
-              record {
-                stands = goes-back map (ad .N) (u .s) (u .p .i) (u .pc) m k v (flagsOf (at m (stack (sum8 (u .s) 1))) .i) (z .0) (z .1);
-                registers = let r = g .registers in record { a = r .a; x = r .x; y = r .y; s = omega arith };
-                image = g .image;
-              };
-        }
+        let r = g .registers in
+        ended r (r .a) (omega arith) refl
+        (goes-back map (ad .N) (u .s) (u .p .i) (u .pc) m k v (flagsOf (at m (stack (sum8 (u .s) 1))) .i) (z .0) (z .1)) (g .image)
 
     does-txs : Ruled Txs → Does Txs
     unfolding perform ends
@@ -275,24 +257,18 @@ module _ (m₀ : List ℕ) (c : ℕ) (map : List ℕ) (ad : Admitted m₀ c map)
         let z = at-zero main (b .0) in
         let on = follows n (b .1 .0) in
         let idle = alone map (ad .N) (u .s) (u .p .i) (u .pc) m k v (z .0) in
-        record {
-          only = refl;
-          next =
-              record {
-                stands =
-                    starts map (ad .N) (u .x) (u .p .i) n m
-                    (record {
-                      i = on .i;
-                      within = on .within;
-                      address = on .address;
-                      kind = on .kind ∙ z .0;
-                      height = on .height ∙ z .1;
-                      need = omega (arith, on .need, idle .1);
-                    });
-                registers = let r = g .registers in record { a = r .a; x = r .x; y = r .y; s = r .x };
-                image = g .image;
-              };
-        }
+        let r = g .registers in
+        ended r (r .a) (r .x) refl
+        (starts map (ad .N) (u .x) (u .p .i) n m
+        (record {
+          i = on .i;
+          within = on .within;
+          address = on .address;
+          kind = on .kind ∙ z .0;
+          height = on .height ∙ z .1;
+          need = omega (arith, on .need, idle .1);
+        }))
+        (g .image)
 
     -- CLI stands in the main program, where no handler runs
     does-cli : Ruled Cli → Does Cli
@@ -300,43 +276,29 @@ module _ (m₀ : List ℕ) (c : ℕ) (map : List ℕ) (ad : Admitted m₀ c map)
     does-cli t =
         let b = behind (eqb (mark .kind) main) (one (goesOn mark n)) t in
         let idle = alone map (ad .N) (u .s) (u .p .i) (u .pc) m k v (eqb-true _ _ (b .0)) in
-        record {
-          only = refl;
-          next =
-              record {
-                stands =
-                    stays map (ad .N) (u .s) (u .p .i) (u .pc) m k v false n m (follows n (b .1 .0)) (λ h. sym (idle .0) ∙ h) (λ p h. refl);
-                registers = let r = g .registers in record { a = r .a; x = r .x; y = r .y; s = r .s };
-                image = g .image;
-              };
-        }
+        let r = g .registers in
+        ended r (r .a) (r .s) refl
+        (stays map (ad .N) (u .s) (u .p .i) (u .pc) m k v false n m (follows n (b .1 .0)) (λ h. sym (idle .0) ∙ h) (λ p h. refl))
+        (g .image)
 
     -- JSR: "low, read at S, push PC+2 high, low, then high operand"; PC stands at the high operand, which the pushes leave as it is
     pub does-jsr : (low p : ℕ) → p < 65536 → sum16 p 1 ≡ n → isProtected c p ≡ true → at m₀ p ≡ high →
         Ruled (Jsr low) → Done (pushes 2) (u .s) k (ends c (perform (Jsr low) (withPc p u)) m)
     unfolding perform jsr ends _>>=_
     does-jsr low p h on code to t =
-        let s = g .registers .s in
+        let r = g .registers in
         let s₁ : down 1 (u .s) < 256 = omega arith in
         let whole : address (p % 256) (p / 256) ≡ p = omega arith in
         let m₁ = set m (stack (u .s)) (p / 256) in
         let m₂ = set m₁ (stack (down 1 (u .s))) (p % 256) in
-        let image₁ = pushed-image m (u .s) (p / 256) s (omega arith) (g .image) in
+        let image₁ = pushed-image m (u .s) (p / 256) (r .s) (omega arith) (g .image) in
         let image = pushed-image m₁ (down 1 (u .s)) (p % 256) s₁ (omega arith) image₁ in
         let there = ap (address low) (image .code p code ∙ to) in
-        rw (stack-open (u .s) s, stack-page (u .s) s, stack-open (down 1 (u .s)) s₁, stack-page (down 1 (u .s)) s₁)
-        (record {
-          only = refl;
-          next =
-              record {
-                stands =
-                    calls map (ad .N) (u .s) (u .p .i) (u .pc) m k v few s (g .image .size) (p % 256) (p / 256) n (address low (at m₂ p))
-                    (rw whole on)
-                    (follows n (t .0)) (rw there (leads-to map _ routine 0 2 (mark .need) (t .1 .0)));
-                registers = let r = g .registers in record { a = r .a; x = r .x; y = r .y; s = omega arith };
-                image = image;
-              };
-        })
+        rw (stack-open (u .s) (r .s), stack-page (u .s) (r .s), stack-open (down 1 (u .s)) s₁, stack-page (down 1 (u .s)) s₁)
+        (ended r (r .a) (omega arith) refl
+        (calls map (ad .N) (u .s) (u .p .i) (u .pc) m k v few (r .s) (g .image .size) (p % 256) (p / 256) n (address low (at m₂ p))
+        (rw whole on) (follows n (t .0)) (rw there (leads-to map _ routine 0 2 (mark .need) (t .1 .0))))
+        image)
 
     -- an instruction that was fetched whole
     pub performs : (i : Instruction) (wide : Bool) (l h : ℕ) → gives wide l h i ≡ (l, h) → l < 256 → h < 256 → Ruled i → Does i

@@ -17,7 +17,7 @@ use Rattle.rules.specs.Cycles.{Bank, execution, indirect, _>>=_}
 use Rattle.rules.specs.Addressing.{load, place, pointer, zeroIndexed, indexed, crosses, loadIndexed}
 use Rattle.admission_rules.specs.declared.Rules.{Rules}
 use Rattle.admission_rules.specs.declared.Rules.the-variants.{Broken}
-use Rattle.admission_rules.specs.Admission.{testsOf, outside, stored}
+use Rattle.admission_rules.specs.Admission.{testsOf, outside, storeRules}
 use Rattle.laws.proofs.Tests.{Hold, if-case}
 use Rattle.admission_rules.proofs.Calm.{OffPage, Calm}
 
@@ -86,7 +86,7 @@ module _ (map : List ℕ) (i : ℕ) where
   unbroken true e r t = (refl, t)
   unbroken false e r t = absurd (broken e t)
 
-  pub place-calm : (c : Cpu) (d : Mode) (r : Rules) → Bytes c → Small d → Hold (testsOf map i (stored i d r)) → Stored map i c d r
+  pub place-calm : (c : Cpu) (d : Mode) (r : Rules) → Bytes c → Small d → Hold (testsOf map i (storeRules i d r)) → Stored map i c d r
   unfolding place zeroIndexed pointer indexed _>>=_
   place-calm c (Immediate v) r b h t = record { calm = λ e. omega arith; rest = t }
   place-calm c (Zero z) r b h t = record { calm = λ e. omega arith; rest = t }

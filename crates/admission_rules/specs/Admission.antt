@@ -64,8 +64,8 @@ abbrev pub ascends : List ℕ → ℕ → Bool
 ascends map zero = true
 ascends map (suc i) = ltb (markAt map i .address) (markAt map (suc i) .address)
 
-unfoldable pub formTests : List ℕ → ℕ → List Test
-formTests map i =
+unfoldable pub markTests : List ℕ → ℕ → List Test
+markTests map i =
     let kind = markAt map i .kind in
     MapRecord i unless (leb main kind && leb kind handler) ∷
     MapRecord i unless (eqb (at map (8 * i + 5)) 0 && eqb (at map (8 * i + 6)) 0 && eqb (at map (8 * i + 7)) 0) ∷
@@ -88,17 +88,17 @@ abbrev pub outside : ℕ → ℕ → Bool
 outside least a = not (leb least a && leb a 0x01FF)
 
 -- "Stores, shifts, INC, DEC: absolute address not 0100 to 01FF; a,X or a,Y base not 0001 to 01FF"; "not .. 81, 91"; and then the rules r
-abbrev pub stored : ℕ → Mode → Rules → Rules
-stored i (Immediate v) r = r
-stored i (Zero z) r = r
-stored i (ZeroX z) r = r
-stored i (ZeroY z) r = r
-stored i (Absolute low high) r = if outside 0x0100 (address low high) then r else Broken (StoreAddress i)
-stored i (AbsoluteX low high) r = if outside 0x0001 (address low high) then r else Broken (StoreAddress i)
-stored i (AbsoluteY low high) r = if outside 0x0001 (address low high) then r else Broken (StoreAddress i)
-stored i (IndirectX z) r = Broken (Place i)
-stored i (IndirectY z) r = Broken (Place i)
-stored i (IndirectBankY z) r = Broken (Place i)
+abbrev pub storeRules : ℕ → Mode → Rules → Rules
+storeRules i (Immediate v) r = r
+storeRules i (Zero z) r = r
+storeRules i (ZeroX z) r = r
+storeRules i (ZeroY z) r = r
+storeRules i (Absolute low high) r = if outside 0x0100 (address low high) then r else Broken (StoreAddress i)
+storeRules i (AbsoluteX low high) r = if outside 0x0001 (address low high) then r else Broken (StoreAddress i)
+storeRules i (AbsoluteY low high) r = if outside 0x0001 (address low high) then r else Broken (StoreAddress i)
+storeRules i (IndirectX z) r = Broken (Place i)
+storeRules i (IndirectY z) r = Broken (Place i)
+storeRules i (IndirectBankY z) r = Broken (Place i)
 
 module _ (mark : Mark) where
   -- "Each successor .. is marked with the same kind"
@@ -131,8 +131,8 @@ module _ (mark : Mark) where
   module _ (i next second : ℕ) where
     abbrev pub rulesOf : Instruction → Rules
     rulesOf (Read o md) = one (goesOn next)
-    rulesOf (Store o md) = stored i md (one (goesOn next))
-    rulesOf (Change o md) = stored i md (one (goesOn next))
+    rulesOf (Store o md) = storeRules i md (one (goesOn next))
+    rulesOf (Change o md) = storeRules i md (one (goesOn next))
     rulesOf (Accumulator o) = one (goesOn next)
     rulesOf (Implied o) = one (goesOn next)
     rulesOf (AtStack Php) = one (goesUp next)
@@ -150,40 +150,41 @@ module _ (mark : Mark) where
     rulesOf Cli = if eqb (mark .kind) main then one (goesOn next) else Broken (Stack i)
     rulesOf Undefined = Broken (Place i)
 
-module _ {M : Type 0} (memory : Memory M) (m : M) (c : ℕ) (map : List ℕ) where
-  abbrev pub wordAt : ℕ → ℕ
-  wordAt p = address (memory .peek m p) (memory .peek m (sum16 p 1))
-
-  -- 10: "image length, c, map length 0, over 65,536 or no multiple of 8"
-  abbrev pub inputFits : Bool
-  inputFits =
-      eqb (memory .size m) 65536 && leb 1 c && leb c 254 && leb 1 (length map) && leb (length map) 65536 && eqb (length map % 8) 0
+module _ {M : Type 0} (memory : Memory M) (m : M) where
+  abbrev pub vectorAt : ℕ → ℕ
+  vectorAt p = address (memory .peek m p) (memory .peek m (sum16 p 1))
 
   -- 12: "FFFC points to main, FFFE to handler, both height 0; their needs + 3 make at most 256"
-  unfoldable pub vectorsHold : Bool
-  vectorsHold =
-      marked map λ r. isMark (wordAt 0xFFFC) main 0 r
-      && (marked map λ h. isMark (wordAt 0xFFFE) handler 0 h && leb (r .need + h .need + 3) 256)
+  unfoldable pub vectorsHold : List ℕ → Bool
+  vectorsHold map =
+      marked map λ r. isMark (vectorAt 0xFFFC) main 0 r
+      && (marked map λ h. isMark (vectorAt 0xFFFE) handler 0 h && leb (r .need + h .need + 3) 256)
 
-  -- "the whole instruction lies in protected pages"; "place, undefined or barred opcode"
-  unfoldable pub rulesAt : ℕ → Rules
-  rulesAt i =
-      let mark = markAt map i in
-      let p = mark .address in
-      let entry = decode (memory .peek m p) in
-      let high = memory .peek m (sum16 p 2) in
-      if isProtected c p && leb (p + sizeOf entry) 65536
-      then rulesOf mark i (sum16 p (sizeOf entry)) high (instructionOf entry (memory .peek m (sum16 p 1)) high)
-      else Broken (Place i)
+  module _ (c : ℕ) (map : List ℕ) where
+    -- 10: "image length, c, map length 0, over 65,536 or no multiple of 8"
+    abbrev pub inputFits : Bool
+    inputFits =
+        eqb (memory .size m) 65536 && leb 1 c && leb c 254 && leb 1 (length map) && leb (length map) 65536 && eqb (length map % 8) 0
 
-  abbrev pub ruleTests : ℕ → List Test
-  ruleTests i = testsOf map i (rulesAt i)
+    -- "the whole instruction lies in protected pages"; "place, undefined or barred opcode"
+    unfoldable pub rulesAt : ℕ → Rules
+    rulesAt i =
+        let mark = markAt map i in
+        let p = mark .address in
+        let entry = decode (memory .peek m p) in
+        let high = memory .peek m (sum16 p 2) in
+        if isProtected c p && leb (p + sizeOf entry) 65536
+        then rulesOf mark i (sum16 p (sizeOf entry)) high (instructionOf entry (memory .peek m (sum16 p 1)) high)
+        else Broken (Place i)
 
-  -- "Admission: 10; 11, first record; 12; then the lowest record, and at it the lowest number."
-  abbrev pub admissionTests : List Test
-  admissionTests =
-      Admission unless inputFits ∷ ofRecords (formTests map) 0 (marksIn map) ++
-      Vectors unless vectorsHold ∷ ofRecords ruleTests 0 (marksIn map)
+    abbrev pub ruleTests : ℕ → List Test
+    ruleTests i = testsOf map i (rulesAt i)
 
-  unfoldable pub admit : Verdict
-  admit = tested admissionTests Barred Accepted
+    -- "Admission: 10; 11, first record; 12; then the lowest record, and at it the lowest number."
+    abbrev pub admissionTests : List Test
+    admissionTests =
+        Admission unless inputFits ∷ ofRecords (markTests map) 0 (marksIn map) ++
+        Vectors unless vectorsHold map ∷ ofRecords ruleTests 0 (marksIn map)
+
+    unfoldable pub admit : Verdict
+    admit = tested admissionTests Barred Accepted

@@ -1,4 +1,13 @@
--- Demand 3: what an accepted image promises of every run.
+-- Demand 3 of an accepted image, clause by clause; in brackets the definition that says it.
+--   If the part is first reset [Safe] from a well-formed 6502 record with the same protected pages [Admissible],
+--   each step gets that same image as it then stands, the record the last one left [Calls, Plays],
+--   list room for one step [Proper] and lines and pins the part has, the non-maskable line stays quiet [ProperScript],
+--   and after admission nobody else alters the stack page or the write-protected pages [Unaltered],
+--   then under any further resets and interrupt requests
+--   no step refuses [Fine.answered; of a run as well, Calls],
+--   every instruction run is one the map names [Fine.named],
+--   only pushes write the stack page [Fine.only],
+--   and the bytes on the stack since the last reset or stack-pointer load [Stacked] stay between 0 and 256 [Fine.least, Fine.most].
 use Prim.Native.Nat.{ℕ, zero, suc, _+_, _*_, _/_, _<_, _≤_}
 use mathlib.Core.Path.{_≡_}
 use mathlib.Core.Bool.{true, false, _&&_}
@@ -11,7 +20,6 @@ use Rattle.rules.specs.declared.Instruction.{Instruction}
 use Rattle.rules.specs.declared.Instruction.the-variants.{Read, Store, Change, Accumulator, Implied, AtStack, Branch, Jump, JumpIndirect, Jsr, Brk, Txs, Cli, Undefined}
 use Rattle.rules.specs.declared.StepAnswer.{StepAnswer}
 use Rattle.rules.specs.declared.StepAnswer.the-variants.{Stepped}
-use Rattle.rules.specs.declared.RunAnswer.the-variants.{Played}
 use Rattle.rules.specs.declared.Verdict.the-variants.{Accepted}
 use Rattle.rules.specs.Basics.{if_then_else_, at, address, sum16}
 use Rattle.rules.specs.Opcodes.{decode, instructionOf}
@@ -21,8 +29,8 @@ use Rattle.rules.specs.declared.Event.the-variants.{Res, Nmi, Irq, Execute}
 use Rattle.rules.specs.Interrupts.{resOf, nmiOf}
 use Rattle.rules.specs.Bus.{images, isProtected}
 use Rattle.rules.specs.Record.{wellFormed}
-use Rattle.rules.specs.Step.{Outcome, step, stateNow, eventNow, opcodeOf}
-use Rattle.rules.specs.Run.{runOf}
+use Rattle.rules.specs.Step.{Outcome, stateNow, eventNow, opcodeOf}
+use Rattle.rules.specs.Run.{Tally, stepAt, moved, played, start, runOf}
 use Rattle.admission_rules.specs.Admission.{markAt, marksIn, admit}
 
 -- "The bytes on the stack, for demand 3, are a whole number that never wraps": as how many were pushed and how many pulled since it was 0.
@@ -71,14 +79,14 @@ stackedAfter (pushes n) k = record { pushed = k .pushed + n; pulled = k .pulled 
 stackedAfter (pulls n) k = record { pushed = k .pushed; pulled = k .pulled + n }
 
 -- the addresses that n pushes from S on write
-abbrev pub pushed : ℕ → ℕ → List ℕ
-pushed zero s = []
-pushed (suc n) s = stack s ∷ pushed n (down 1 s)
+abbrev pub pushAddresses : ℕ → ℕ → List ℕ
+pushAddresses zero s = []
+pushAddresses (suc n) s = stack s ∷ pushAddresses n (down 1 s)
 
 abbrev pub pushesOf : Effect → ℕ → List ℕ
 pushesOf none s = []
 pushesOf clears s = []
-pushesOf (pushes n) s = pushed n s
+pushesOf (pushes n) s = pushAddresses n s
 pushesOf (pulls n) s = []
 
 -- the addresses in the stack page that the first n accesses of a list write
@@ -88,64 +96,77 @@ stackWrites (suc n) l =
     let later = stackWrites n (drop 8 l) in
     if eqb (at l 4) 1 && eqb (at l 1) 1 then address (at l 0) (at l 1) ∷ later else later
 
--- What a step gets beside the record, and what must hold of it: lines and pins that the part has, NMI quiet, room for one step.
-pub record Given : Type 0 where
+-- A call of the board, which gets the image as it then stands: a run of a script, or a step by itself, whose script is its lines and pins.
+pub record Call : Type 0 where
   pub image : List ℕ
-  pub lines : ℕ
-  pub pins : ℕ
+  pub script : List ℕ
   pub buffer : List ℕ
 
-pub record Proper (g : Given) : Type 0 where
-  pub lines : g .lines < 8
-  pub quiet : nmiOf (g .lines) ≡ false
-  pub pins : g .pins ≡ 0
-  pub room : 56 ≤ length (g .buffer)
+-- lines and pins that a 6502 has, NMI quiet
+abbrev pub ProperScript : List ℕ → Type 0
+ProperScript [] = Unit {0}
+ProperScript (lines ∷ []) = ⊥
+ProperScript (lines ∷ pins ∷ script) = (lines < 8) × (nmiOf lines ≡ false) × (pins ≡ 0) × ProperScript script
 
--- Between two steps, which leave m and get m′, others may alter everything but the stack page and the protected pages.
+-- and list room for one step for each of its steps
+pub record Proper (call : Call) : Type 0 where
+  pub script : ProperScript (call .script)
+  pub room : 56 * (length (call .script) / 2) ≤ length (call .buffer)
+
+-- Between two calls, which leave m and get m′, others may alter everything but the stack page and the protected pages.
 pub record Unaltered (c : ℕ) (m m′ : List ℕ) : Type 0 where
   pub size : length m′ ≡ length m
   pub bytes : (p : ℕ) → at m′ p < 256
   pub stackPage : (p : ℕ) → p / 256 ≡ 1 → at m′ p ≡ at m p
   pub protectedPages : (p : ℕ) → isProtected c p ≡ true → at m′ p ≡ at m p
 
--- the step that a record r takes with g
-module _ (r : List ℕ) (g : Given) where
+-- the next step of a call that stands at s (a step by itself stands at its `start`)
+module _ (lines pins : ℕ) (s : Outcome Tally (List ℕ)) where
   abbrev pub stateIn : State
-  stateIn = stateNow images r (g .image) (g .pins)
+  stateIn = stateNow images (s .state) (s .image) pins
 
   abbrev pub eventIn : Event
-  eventIn = eventNow images r (g .image) (g .lines) (g .pins)
-
-  abbrev pub outcome : Outcome StepAnswer (List ℕ)
-  outcome = step images r (g .image) (g .lines) (g .pins) (g .buffer)
+  eventIn = eventNow images (s .state) (s .image) lines pins
 
   abbrev pub effect : Effect
   effect =
       let pc = stateIn .cpu .pc in
-      effectAt eventIn
-      (effectOf (instructionOf (decode (opcodeOf images stateIn (g .image))) (at (g .image) (sum16 pc 1)) (at (g .image) (sum16 pc 2))))
+      let low = at (s .image) (sum16 pc 1) in
+      let high = at (s .image) (sum16 pc 2) in
+      effectAt eventIn (effectOf (instructionOf (decode (opcodeOf images stateIn (s .image))) low high))
 
   -- what is promised of it, where k bytes were on the stack
   pub record Fine (map : List ℕ) (k : Stacked) : Type 0 where
     -- it does not refuse
     pub accesses : ℕ
-    pub answered : outcome .answer ≡ Stepped accesses
+    pub answered : stepAt images lines pins s .answer ≡ Stepped accesses
     -- the map names the instruction that it runs
     pub named : eventIn ≡ Execute → (i : ℕ) × (i < marksIn map) × (markAt map i .address ≡ stateIn .cpu .pc)
     -- it writes the stack page only by its pushes
-    pub only : stackWrites accesses (outcome .accesses) ≡ pushesOf effect (stateIn .cpu .s)
+    pub only : stackWrites accesses (stepAt images lines pins s .accesses) ≡ pushesOf effect (stateIn .cpu .s)
     -- it leaves 0 to 256 bytes on the stack
     pub least : stackedAfter effect k .pulled ≤ stackedAfter effect k .pushed
     pub most : stackedAfter effect k .pushed ≤ stackedAfter effect k .pulled + 256
 
--- all steps, each with the record that the last one left and the image that it left, but for what others altered
-abbrev pub Steps : ℕ → List ℕ → List ℕ → List ℕ → Stacked → List Given → Type 0
-Steps c map r m k [] = Unit {0}
-Steps c map r m k (g ∷ gs) =
-    Unaltered c m (g .image) → Proper g →
-    Fine r g map k × Steps c map (outcome r g .state) (outcome r g .image) (stackedAfter (effect r g) k) gs
+-- Each step of a call that stands at s is fine, the next one gets what it leaves, and where the last one leaves off Then holds.
+abbrev pub Plays : List ℕ → (Outcome Tally (List ℕ) → Stacked → Type 0) → List ℕ → Outcome Tally (List ℕ) → Stacked → Type 0
+Plays map Then [] s k = Then s k
+Plays map Then (lines ∷ []) s k = Then s k
+Plays map Then (lines ∷ pins ∷ script) s k =
+    (fine : Fine lines pins s map k) ×
+    Plays map Then script (moved s (stepAt images lines pins s) (fine .accesses)) (stackedAfter (effect lines pins s) k)
 
--- "every well-formed 6502 record with these protected pages"
+-- All calls, each with the record that the last one left and the image that it left, but for what others altered. A run plays to its end:
+-- it leaves what its steps leave, and answers how many they were and what they listed.
+abbrev pub Calls : ℕ → List ℕ → List ℕ → List ℕ → Stacked → List Call → Type 0
+Calls c map r m k [] = Unit {0}
+Calls c map r m k (call ∷ calls) =
+    Unaltered c m (call .image) → Proper call →
+    Plays map
+    (λ s k. (runOf images r (call .image) (call .script) (call .buffer) ≡ played s) × Calls c map (s .state) (s .image) k calls)
+    (call .script) (start r (call .image) (call .buffer)) k
+
+-- a well-formed 6502 record with these protected pages
 pub record Admissible (c : ℕ) (r : List ℕ) : Type 0 where
   pub size : length r ≡ 16
   pub bytes : (k : ℕ) → at r k < 256
@@ -153,26 +174,12 @@ pub record Admissible (c : ℕ) (r : List ℕ) : Type 0 where
   pub part : at r 0 ≡ 2
   pub pages : at r 11 ≡ c
 
--- every sequence of steps from such a record, of which the first is a reset
+-- every sequence of calls from such a record, of which the first begins with a reset
 abbrev pub Safe : List ℕ → ℕ → List ℕ → Type 0
 Safe m c map =
-    (r : List ℕ) → Admissible c r → (g : Given) (gs : List Given) → resOf (g .lines) ≡ true →
-    Steps c map r m (record { pushed = 0; pulled = 0 }) (g ∷ gs)
+    (r : List ℕ) → Admissible c r → (call : Call) (calls : List Call) → resOf (at (call .script) 0) ≡ true →
+    Calls c map r m (record { pushed = 0; pulled = 0 }) (call ∷ calls)
 
 -- the demand: what admission accepts is safe
 abbrev pub Demand3 : Type 0
 Demand3 = (m : List ℕ) (c : ℕ) (map : List ℕ) → admit images m c map ≡ Accepted → Safe m c map
-
--- The same of a run: its script has lines and pins that the part has, NMI quiet,
-abbrev pub ProperScript : List ℕ → Type 0
-ProperScript [] = Unit {0}
-ProperScript (lines ∷ []) = ⊥
-ProperScript (lines ∷ pins ∷ script) = (lines < 8) × (nmiOf lines ≡ false) × (pins ≡ 0) × ProperScript script
-
--- its first step is a reset, and there is room for all steps, 56 bytes for two of the script: then it plays its script to the end.
-abbrev pub PlaysOut : List ℕ → ℕ → List ℕ → Type 0
-PlaysOut m c map =
-    (r : List ℕ) → Admissible c r → ((p : ℕ) → at m p < 256) → (lines pins : ℕ) (rest buffer : List ℕ) → resOf lines ≡ true →
-    let script = lines ∷ pins ∷ rest in
-    ProperScript script → 28 * length script ≤ length buffer →
-    (listed : ℕ) × (runOf images r m script buffer .answer ≡ Played (length script / 2) listed)

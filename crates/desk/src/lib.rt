@@ -7,14 +7,13 @@ ghost use Rattle.rules.specs.Answers.{verdictWord};
 ghost use Rattle.rules.specs.Bus.{images};
 ghost use Rattle.rules.specs.Pages.{pageWords, fed};
 ghost use Rattle.admission_rules.specs.Admission.{admit};
-ghost use Rattle.admission_rules.specs.Safety.{Safe, PlaysOut};
+ghost use Rattle.admission_rules.specs.Safety.{Safe};
 
 // Demand 3: 0 promises that the image is safe.
 #[no_mangle]
 pub extern "C" fn wankitare_admit(image: &[u8], c: u8, map: &[u8]) -> u64
     ensures exact { λ r. ⌜ r ≡ verdictWord (admit images (now (image .entry)) c (now (map .entry))) ⌝ }
     ensures safe { λ r. ⌜ (r ≡ 0 → Safe (now (image .entry)) c (now (map .entry))) ⌝ }
-    ensures plays { λ r. ⌜ (r ≡ 0 → PlaysOut (now (image .entry)) c (now (map .entry))) ⌝ }
 {
     match admission::admit(image, c, map) {
         Verdict::Accepted => 0,

@@ -7,9 +7,9 @@ use Rattle.admission.proofs.vectors_hold.Tie as tie
 returns : tie.Need-returns
 unfolding vectorsHold
 returns c =
-    let main = rw (c .before .before .before .word-at .ensures) at (c .before .before .need-at .ensures) in
-    let handler = rw (c .before .word-at2 .ensures) at (c .need-at2 .ensures) in
-    λ k. rooms _ _ _ _ _ main handler
+    let main = rw (c .before .before .before .vector-at .ensures) at (c .before .before .need-at .ensures) in
+    let handler = rw (c .before .vector-at2 .ensures) at (c .need-at2 .ensures) in
+    rooms _ _ _ _ _ main handler
 
 pub vectors-hold-spec : {M : Type 1} → statement M
 vectors-hold-spec =

@@ -41,7 +41,7 @@ returns-3 c =
     let at-fits = at-forms .before .before in
     let a = at-fits .before .before .before .args in
     let fit = sym (at-fits .input-fits .ensures) ∙ not-false _ (at-forms .before .if1 .left) in
-    let none = sym (c .before .vectors-hold .ensures _) ∙ not-true _ (c .if3 .taken) in
+    let none = sym (c .before .vectors-hold .ensures) ∙ not-true _ (c .if3 .taken) in
     sym (bad-vectors (now (a .image)) (a .c) (now (a .map)) fit _ (at-forms .first-malformed .ensures) (c .before .before .if2 .left) none)
 
 judge-requires : tie.Need-judge-requires
@@ -60,7 +60,7 @@ returns-4 c =
     let at-fits = at-forms .before .before in
     let a = at-fits .before .before .before .args in
     let fit = sym (at-fits .input-fits .ensures) ∙ not-false _ (at-forms .before .if1 .left) in
-    let held = sym (c .before .before .vectors-hold .ensures _) ∙ not-false _ (c .before .if3 .left) in
+    let held = sym (c .before .before .vectors-hold .ensures) ∙ not-false _ (c .before .if3 .left) in
     c .judge .ensures
     ∙ sym (records-left (now (a .image)) (a .c) (now (a .map)) fit _ (at-forms .first-malformed .ensures) (at-if2 .if2 .left) held)
 

@@ -9,13 +9,13 @@ returns : tie.Need-returns
 returns c =
     let a = c .before .before .admit .ensures in
     let word = ap verdictWord (sym (c .enum-told .given .1) ∙ a .0) in
-    (word, (promised _ _ _ (a .0) (a .1 .0) _ word, promised _ _ _ (a .0) (a .1 .1) _ word))
+    (word, promised _ _ _ (a .0) (a .1) _ word)
 
 returns-2 : tie.Need-returns-2
 returns-2 c =
     let a = c .before .before .before .before .admit .ensures in
     let word = c .refusal-word .ensures ∙ ap verdictWord (sym (c .before .before .e .given .1) ∙ a .0) in
-    (word, (promised _ _ _ (a .0) (a .1 .0) _ word, promised _ _ _ (a .0) (a .1 .1) _ word))
+    (word, promised _ _ _ (a .0) (a .1) _ word)
 
 pub wankitare-admit-spec : {M : Type 1} → statement M
 wankitare-admit-spec =

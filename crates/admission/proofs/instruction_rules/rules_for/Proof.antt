@@ -10,12 +10,12 @@ returns c =
 returns-2 : tie.Need-returns-2
 returns-2 c =
     let at-one = c .before .before .before .before in
-    rw (c .before .before .instruction2 .given .1, c .stored .ensures, at-one .one .ensures, at-one .before .goes-on .ensures)
+    rw (c .before .before .instruction2 .given .1, c .store-rules .ensures, at-one .one .ensures, at-one .before .goes-on .ensures)
 
 returns-3 : tie.Need-returns-3
 returns-3 c =
     let at-one = c .before .before .before .before in
-    rw (c .before .before .instruction3 .given .1, c .stored2 .ensures, at-one .one .ensures, at-one .before .goes-on .ensures)
+    rw (c .before .before .instruction3 .given .1, c .store-rules2 .ensures, at-one .one .ensures, at-one .before .goes-on .ensures)
 
 returns-4 : tie.Need-returns-4
 returns-4 c =

@@ -1,9 +1,9 @@
 use borrow.Author.Needs.{needs}
-use Rattle.admission.proofs.instruction_rules.stored.Statement.{statement}
-use Rattle.admission.proofs.instruction_rules.stored.Tie as tie
+use Rattle.admission.proofs.instruction_rules.store_rules.Statement.{statement}
+use Rattle.admission.proofs.instruction_rules.store_rules.Tie as tie
 
-pub stored-spec : {M : Type 1} → statement M
-stored-spec =
+pub store-rules-spec : {M : Type 1} → statement M
+store-rules-spec =
     tie.close
     (tie.spec
     (λ c. search needs)
