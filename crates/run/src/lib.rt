@@ -14,21 +14,21 @@ ghost use Rattle.rules.specs.Run.{start, play, runOf};
 ghost use Rattle.checks.specs.Checks.{Fits};
 ghost use Rattle.run.specs.Words.{tallied};
 
-// Puts down the steps done and the accesses listed.
-fn tell(tally: &mut [u64], steps: usize, listed: usize)
+// Puts down the steps done and the accesses listed, and answers the word.
+fn told(tally: &mut [u64], steps: usize, listed: usize, word: u64) -> u64
     requires { ⌜ length (now tally) ≡ 2 ⌝ }
-    ensures { λ r. ⌜ now (tally .exit) ≡ steps ∷ listed ∷ [] ⌝ }
+    ensures { λ r. ⌜ (r ≡ word) × (now (tally .exit) ≡ steps ∷ listed ∷ []) ⌝ }
 {
     tally[0] = steps as u64;
     tally[1] = listed as u64;
+    word
 }
 
 // Refused "before anything".
 fn refused(tally: &mut [u64; 2], why: Refusal) -> u64
     ensures { λ r. ⌜ (r, now (tally .exit)) ≡ tallied (Stopped 0 0 why) ⌝ }
 {
-    tell(tally, 0, 0);
-    words::refusal_word(why)
+    told(tally, 0, 0, words::refusal_word(why))
 }
 
 // The word of the step with these lines and pins.
@@ -67,14 +67,12 @@ fn play(
             &mut accesses[8 * listed..],
         );
         if word % 256 != 0 {
-            tell(tally, i / 2, listed);
-            return word;
+            return told(tally, i / 2, listed, word);
         }
         listed = listed + (word / 256) as usize;
         i = i + 2;
     }
-    tell(tally, i / 2, listed);
-    0
+    told(tally, i / 2, listed, 0)
 }
 
 // "Run: 1, 2, 3, 7 before anything". Answers the word; the tally is the steps done and the accesses listed.

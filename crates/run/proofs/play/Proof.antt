@@ -63,7 +63,7 @@ returns c =
     let d = told-refused _ _ _ _ _ e (at-if1 .if1 .taken) in
     let least : at .i + 1 < length script = omega (arith, at .inv .even, start .pre .1) in
     let stop = stops script (at .state) (at .image) (at .accesses) (at .i) (at .listed) (d .0) _ _ _ (d .2) least in
-    rw (d .1, c .tell .ensures, rest-back (8 * at .listed) (at .accesses) _) (ap (worded tallied) (stop ∙ sym (at .inv .plays)))
+    rw (c .told .ensures .0, d .1, c .told .ensures .1, rest-back (8 * at .listed) (at .accesses) _) (ap (worded tallied) (stop ∙ sym (at .inv .plays)))
 
 loop-again : tie.Need-loop-again Inv-loop μ-loop
 loop-again c =
@@ -98,7 +98,7 @@ returns-2 c =
     let at = at-loop .loop in
     let script = now (start .args .script) in
     let end = ends script (at .state) (at .image) (at .accesses) (at .i) (at .listed) (c .before .before .loop-test .left) in
-    rw (c .tell2 .ensures) (ap (worded tallied) (end ∙ sym (at .inv .plays)))
+    rw (c .told2 .ensures .0, c .told2 .ensures .1) (ap (worded tallied) (end ∙ sym (at .inv .plays)))
 
 pub play-spec : {M : Type 1} → statement M
 play-spec =
