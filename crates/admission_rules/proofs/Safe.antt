@@ -86,8 +86,8 @@ module _ (m₀ : List ℕ) (c : ℕ) (map : List ℕ) (ad : Admitted m₀ c map)
     ready : Ready m₀ c map ad (cpuIn (o .state)) (o .image) (stackedAfter e k)
 
   after : (lines : ℕ) (u : State) (buffer : List ℕ) (b : Bus) (is : b .part ≡ 2) (ran : Ran (World (List ℕ)) Cpu) (x : End Cpu) →
-      Ended b is ran x → (e : Effect) (s : ℕ) (k : Stacked) → x .writes ≡ pushesOf e s → Ready m₀ c map ad (x .value) (x .image) (stackedAfter e k) →
-      After e s k (finished images lines u ran buffer)
+      Ended b is ran x → (e : Effect) (s : ℕ) (k : Stacked) → x .writes ≡ pushesOf e s →
+      Ready m₀ c map ad (x .value) (x .image) (stackedAfter e k) → After e s k (finished images lines u ran buffer)
   unfolding finished stateOf
   after lines u buffer b is ran x h e s k only ready =
       let v = stateAfter images lines u ran in
