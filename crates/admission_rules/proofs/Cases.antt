@@ -8,7 +8,7 @@ use Rattle.rules.specs.Bus.{Chart, charts}
 use Rattle.rules.specs.Answers.{verdictWord}
 use Rattle.rules.proofs.Opened.{opened}
 use Rattle.rules.proofs.Examples.{same, failing, zeros, _from_holds_}
-use Rattle.admission_rules.specs.Admission.{markTests, vectorsHold, rulesOf, rulesAt, admit}
+use Rattle.admission_rules.specs.Admission.{markTests, vectorsHold, rulesAt, admit}
 
 -- A firmware of page FF, with c = 1, and its map: main at FF00, a routine at FF20, a handler at FF30.
 

@@ -22,7 +22,7 @@ use Rattle.rules.specs.Bus.{resetBus, images, World}
 use Rattle.rules.specs.Record.{stateOf, recordOf, wellFormed}
 use Rattle.rules.specs.Step.{Outcome, busAt, ranOf, stateAfter, finished, opcodeOf, canStep, refused, stepTests, step}
 use Rattle.rules.specs.Run.{Tally, stepAt, moved, played, stopped, goesOn, play, start, runTests, runOf}
-use Rattle.admission_rules.specs.Safety.{Stacked, Effect, effectAt, stackedAfter, pushesOf, stackWrites, Call, ProperScript, Proper, stateIn, eventIn, effect, Plays, Calls, Admissible, Safe, Demand3}
+use Rattle.admission_rules.specs.Safety.{Stacked, Effect, effectAt, stackedAfter, pushesOf, stackWrites, Call, ProperScript, Proper, stateIn, eventIn, effect, Plays, History, Admissible, Safe, Demand3}
 use Rattle.laws.proofs.Tests.{Hold, tested-all}
 use Rattle.laws.proofs.Records.{read-again}
 use Rattle.laws.proofs.Steps.{lawful}
@@ -249,20 +249,20 @@ module _ (m₀ : List ℕ) (c : ℕ) (map : List ℕ) (ad : Admitted m₀ c map)
         plays _ (x .script) (startOf r x) k six b (p .script) (omega (arith, p .room))
         (λ t l sixteen there e. (run-is ∙ e, end t l sixteen there))
 
-  calls : (xs : List Call) (r m : List ℕ) (k : Stacked) → Sixteen c r → Ready m₀ c map ad (cpuIn r) m k → Calls c map r m k xs
-  calls [] r m k six ready = tt
-  calls (x ∷ xs) r m k six ready = λ o p.
+  history : (xs : List Call) (r m : List ℕ) (k : Stacked) → Sixteen c r → Ready m₀ c map ad (cpuIn r) m k → History c map r m k xs
+  history [] r m k six ready = tt
+  history (x ∷ xs) r m k six ready = λ o p.
       let now = others m₀ c map ad (cpuIn r) m (x .image) k ready o in
       call-plays x r k six (now .image .size) p _ (begins (x .script) (startOf r x) k (p .script) now)
-      (λ t l sixteen there. calls xs (t .state) (t .image) l sixteen there)
+      (λ t l sixteen there. history xs (t .state) (t .image) l sixteen there)
 
   -- from the first call on, which begins with a reset
-  all-calls : Safe m₀ c map
-  all-calls r a x xs first = λ o p.
+  from-reset : Safe m₀ c map
+  from-reset r a x xs first = λ o p.
       let k : Stacked = record { pushed = 0; pulled = 0 } in
       let image = others-image m₀ c map ad m₀ (x .image) (ad .size) (λ q h. refl) o in
       call-plays x r k (sixteen c r a) (image .size) p _ (resets (x .script) (startOf r x) k (p .script) first (register-bytes c r a) image)
-      (λ t l sixteen there. calls xs (t .state) (t .image) l sixteen there)
+      (λ t l sixteen there. history xs (t .state) (t .image) l sixteen there)
 
 -- a step by itself is the one step of the call that has its lines and pins
 alone : (r m : List ℕ) (lines pins : ℕ) (buffer : List ℕ) →
@@ -270,4 +270,4 @@ alone : (r m : List ℕ) (lines pins : ℕ) (buffer : List ℕ) →
 alone r m lines pins buffer = refl
 
 pub demand3 : Demand3
-demand3 m c map e = all-calls m c map (admitted m c map e)
+demand3 m c map e = from-reset m c map (admitted m c map e)
