@@ -164,9 +164,8 @@ module _ (m₀ : List ℕ) (c : ℕ) (map : List ℕ) (ad : Admitted m₀ c map)
 
       -- it is fine, and so is the rest of the script if it is so from there
       step-plays : (Then : Outcome Tally (List ℕ) → Stacked → Type 0) (script : List ℕ) → Room (lines ∷ pins ∷ script) s →
-          (Sixteen c (next .state) → Ready m₀ c map ad (cpuIn (next .state)) (next .image) (stackedAfter (effect lines pins s) k) →
-          Room script next → play images (lines ∷ pins ∷ script) s ≡ play images script next →
-          Plays map Then script next (stackedAfter (effect lines pins s) k)) →
+          ((t : Outcome Tally (List ℕ)) (l : Stacked) → Sixteen c (t .state) → Ready m₀ c map ad (cpuIn (t .state)) (t .image) l →
+          Room script t → play images (lines ∷ pins ∷ script) s ≡ play images script t → Plays map Then script t l) →
           Plays map Then (lines ∷ pins ∷ script) s k
       unfolding play
       step-plays Then script h on =
@@ -185,7 +184,8 @@ module _ (m₀ : List ℕ) (c : ℕ) (map : List ℕ) (ad : Admitted m₀ c map)
               least = omega (arith, n .0);
               most = omega (arith, n .1);
             },
-            on (record { size = d .record-size; formed = d .record-formed; part = d .part ∙ six .part; pages = d .pages ∙ six .pages })
+            on next (stackedAfter (effect lines pins s) k)
+                (record { size = d .record-size; formed = d .record-formed; part = d .part ∙ six .part; pages = d .pages ∙ six .pages })
                 (a .ready) later (ap (λ (x : StepAnswer). goesOn images (play images script) s o x) (a .answered)),
           )
 
@@ -229,8 +229,8 @@ module _ (m₀ : List ℕ) (c : ℕ) (map : List ℕ) (ad : Admitted m₀ c map)
       let left : 56 ≤ length (drop (8 * s .answer .listed) (s .accesses)) =
       omega (arith, length-drop (8 * s .answer .listed) (s .accesses)) in
       step-plays lines pins s k six (b .0) (p .0) (p .2) left (b .1) Then script room
-      (λ again ready later same. plays Then script _ _ again (begins script _ _ (p .3) ready) (p .3) later
-      (λ t l sixteen there e. end t l sixteen there (same ∙ e)))
+      (λ t l again ready later same. plays Then script t l again (begins script t l (p .3) ready) (p .3) later
+      (λ v n sixteen there e. end v n sixteen there (same ∙ e)))
 
   -- where a call leaves off, the next may go on
   module _ (x : Call) (r : List ℕ) (k : Stacked) (six : Sixteen c r) (size : length (x .image) ≡ 65536) (p : Proper x) where
