@@ -88,19 +88,23 @@ maps =
     ∷ same (code 13 (0x6C ∷ []) ∷ code 8 (0x81 ∷ []) ∷ code 8 (0x91 ∷ []) ∷ []) (number 13 7 ∷ number 13 5 ∷ number 13 5 ∷ [])
     -- 10 in no protected page; JMP at FFFE, past FFFF; BMI at FFFE, whose next address is 0000, is 16
     ∷ same (below [] ∷ wraps ∷ judged (firmware 1) 1 (marks ++ mark 0xFE 1 0 0) ∷ []) (number 13 0 ∷ number 13 2 ∷ number 16 13 ∷ [])
-    -- 11 14: STA 0100, 01FF, 00FF; INC 0001,X, 01FF,X, 0000,X
+    -- 11 14: STA 0100, 01FF, 00FF; INC 0001,X, 01FF,X, 0000,X; STA 0001,Y, 01FF,Y, 0000,Y
     ∷ same (code 12 (0x01 ∷ []) ∷ code 11 (0xFF ∷ 0x01 ∷ []) ∷ code 11 (0xFF ∷ 0x00 ∷ []) ∷ []) (number 14 6 ∷ number 14 6 ∷ 0 ∷ [])
     ∷ same (code 35 (0x01 ∷ 0x00 ∷ []) ∷ code 35 (0xFF ∷ 0x01 ∷ []) ∷ code 35 (0x00 ∷ 0x00 ∷ []) ∷ [])
     (number 14 10 ∷ number 14 10 ∷ 0 ∷ [])
-    -- 13 15: RTS in main, RTI and TXS and CLI in a routine, RTS in a handler, PLA at height 0
+    ∷ same (code 10 (0x99 ∷ 0x01 ∷ 0x00 ∷ []) ∷ code 10 (0x99 ∷ 0xFF ∷ 0x01 ∷ []) ∷ code 10 (0x99 ∷ 0x00 ∷ 0x00 ∷ []) ∷ [])
+    (number 14 6 ∷ number 14 6 ∷ 0 ∷ [])
+    -- 14 15: RTS in main, RTI and TXS and CLI in a routine, RTS in a handler, PLA at height 0; at height 1 RTS, TXS and RTI
     ∷ same (code 2 (0x60 ∷ []) ∷ code 33 (0x40 ∷ []) ∷ code 33 (0x9A ∷ []) ∷ []) (number 15 1 ∷ number 15 9 ∷ number 15 9 ∷ [])
     ∷ same (code 33 (0x58 ∷ []) ∷ code 48 (0x60 ∷ []) ∷ code 2 (0x68 ∷ []) ∷ []) (number 15 9 ∷ number 15 12 ∷ number 15 1 ∷ [])
-    -- 15 16: next address unmarked, of another kind, height, need; branch and jump target; JSR's target no routine, or its need
+    ∷ same (code 33 (0x60 ∷ []) ∷ code 7 (0x9A ∷ []) ∷ both 48 (0x48 ∷ 0x40 ∷ []) (with 12 4 1 marks ++ mark 0x31 3 1 0) ∷ [])
+    (number 15 9 ∷ number 15 4 ∷ number 15 13 ∷ [])
+    -- 17 16: next address unmarked, of another kind, height, need; branch and jump target; JSR's target no routine, or its need
     ∷ same (code 0 (0xEA ∷ []) ∷ marking 3 2 2 ∷ marking 3 3 1 ∷ marking 3 4 4 ∷ [])
     (number 16 0 ∷ number 16 2 ∷ number 16 2 ∷ number 16 2 ∷ [])
     ∷ same (code 9 (0xF7 ∷ []) ∷ code 14 (0x01 ∷ []) ∷ code 4 (0x30 ∷ []) ∷ marking 8 4 2 ∷ [])
     (number 16 5 ∷ number 16 7 ∷ number 16 2 ∷ number 16 2 ∷ [])
-    -- 17 16: PHA's successor as high, or in as much need; PLA's not lower, or in more need
+    -- 19 16: PHA's successor as high, or in as much need; PLA's not lower, or in more need
     ∷ same (marking 4 3 0 ∷ marking 4 4 3 ∷ marking 5 3 1 ∷ marking 4 4 1 ∷ [])
     (number 16 3 ∷ number 16 3 ∷ number 16 4 ∷ number 16 4 ∷ [])
     ∷ []
