@@ -1,17 +1,17 @@
 -- "it accepts exactly when all the rules above hold"
 use Prim.Native.Nat.{ℕ, zero, suc, _+_, _%_, _<_, _≤_}
 use native.Mathlib.Omega.{arith}
+use native.Mathlib.Decide.{ℕ-discrete}
 use mathlib.Core.Path.{_≡_}
 use mathlib.Core.Bool.{true}
 use mathlib.Core.List.{List, [], _∷_, _++_}
 use borrow.Author.Tests.{eqb-true, leb-true}
 use lib.Dec.{eqb, leb}
 use lib.ListN.{length}
-use Rattle.rules.specs.declared.Refusal.the-variants.{Vectors}
 use Rattle.rules.specs.declared.Verdict.{Verdict}
 use Rattle.rules.specs.declared.Verdict.the-variants.{Accepted, Barred}
 use Rattle.rules.specs.Bus.{Memory, images}
-use Rattle.rules.specs.Answers.{Test, _unless_}
+use Rattle.rules.specs.Answers.{Test}
 use Rattle.admission_rules.specs.Admission.{marksIn, ofRecords, markTests, inputFits, vectorsHold, ruleTests, admissionTests, admit}
 use Rattle.laws.proofs.Tests.{six, Hold, tested-case, tested-all}
 
@@ -48,19 +48,27 @@ hold-both : (s t : List Test) → Hold s → Hold t → Hold (s ++ t)
 hold-both [] t g h = h
 hold-both (x ∷ s) t (e, g) h = (e, hold-both s t g h)
 
+hold-at : (s t : List Test) (x : Test) → Hold (s ++ x ∷ t) → x .holds ≡ true
+hold-at s t x h = hold-right s (x ∷ t) h .0
+
+hold-after : (s t : List Test) (x : Test) → Hold (s ++ x ∷ t) → Hold t
+hold-after s t x h = hold-right s (x ∷ t) h .1
+
 -- all tests of n records from i on hold where those of each hold
-records-hold : (f : ℕ → List Test) (i n : ℕ) → ((j : ℕ) → j < n → Hold (f (i + j))) → Hold (ofRecords f i n)
+records-hold : (f : ℕ → List Test) (i n : ℕ) → ((k : ℕ) → i ≤ k → k < i + n → Hold (f k)) → Hold (ofRecords f i n)
 records-hold f i zero h = tt
 records-hold f i (suc n) h =
-    let here : i + 0 ≡ i = omega arith in
-    hold-both (f i) (ofRecords f (suc i) n) (rw here at (h 0 (omega arith)))
-    (records-hold f (suc i) n (λ j l. let e : i + suc j ≡ suc i + j = omega arith in rw e at (h (suc j) (omega arith))))
+    let here = h i (omega arith) (omega arith) in
+    let later = records-hold f (suc i) n (λ k a b. h k (omega arith) (omega arith)) in
+    search hold-both
 
-record-holds : (f : ℕ → List Test) (i n : ℕ) → Hold (ofRecords f i n) → (j : ℕ) → j < n → Hold (f (i + j))
-record-holds f i zero h j l = absurd (omega arith)
-record-holds f i (suc n) h zero l = let e : i + 0 ≡ i = omega arith in rw e (hold-left (f i) (ofRecords f (suc i) n) h)
-record-holds f i (suc n) h (suc j) l =
-    let e : i + suc j ≡ suc i + j = omega arith in rw e (record-holds f (suc i) n (hold-right (f i) (ofRecords f (suc i) n) h) j (omega arith))
+record-holds : (f : ℕ → List Test) (i n : ℕ) → Hold (ofRecords f i n) → (k : ℕ) → i ≤ k → k < i + n → Hold (f k)
+record-holds f i zero h k a b = absurd (omega arith)
+record-holds f i (suc n) h k a b = go (ℕ-discrete k i) (record-holds f (suc i) n (search (hold-left, hold-right)) k)
+  where
+    go : Dec (k ≡ i) → (suc i ≤ k → k < suc i + n → Hold (f k)) → Hold (f k)
+    go (yes e) later = rw e (search (hold-left, hold-right))
+    go (no e) later = later (omega arith) (omega arith)
 
 module _ {M : Type 0} (memory : Memory M) (m : M) (c : ℕ) (map : List ℕ) where
   abbrev tests : List Test
@@ -77,28 +85,19 @@ module _ {M : Type 0} (memory : Memory M) (m : M) (c : ℕ) (map : List ℕ) whe
     pub records : (i : ℕ) → i < n → Hold (ruleTests memory m c map i)
 
   hold-all : AllRules → Hold tests
-  hold-all a = (
-    a .input,
-    hold-both (ofRecords (markTests map) 0 n) _ (records-hold (markTests map) 0 n (λ i l. from-zero (markTests map) i (a .forms i l)))
-        (a .vectors, records-hold (ruleTests memory m c map) 0 n (λ i l. from-zero (ruleTests memory m c map) i (a .records i l))),
-  )
-    where
-      from-zero : (f : ℕ → List Test) (i : ℕ) → Hold (f i) → Hold (f (0 + i))
-      from-zero f i h = let e : 0 + i ≡ i = omega arith in rw e h
+  hold-all a =
+      let forms = records-hold (markTests map) 0 n (λ i l r. a .forms i (omega arith)) in
+      let records = records-hold (ruleTests memory m c map) 0 n (λ i l r. a .records i (omega arith)) in
+      search hold-both
 
   all-hold : Hold tests → AllRules
   all-hold h =
-      let forms = ofRecords (markTests map) 0 n in
-      let later = Vectors unless vectorsHold memory m map ∷ ofRecords (ruleTests memory m c map) 0 n in
       record {
         input = h .0;
-        forms = λ i l. to-zero (markTests map) i (record-holds (markTests map) 0 n (hold-left forms later (h .1)) i l);
-        vectors = hold-right forms later (h .1) .0;
-        records = λ i l. to-zero (ruleTests memory m c map) i (record-holds (ruleTests memory m c map) 0 n (hold-right forms later (h .1) .1) i l);
+        forms = λ i l. record-holds (markTests map) 0 n (search hold-left) i (omega arith) (omega arith);
+        vectors = search hold-at;
+        records = λ i l. record-holds (ruleTests memory m c map) 0 n (search hold-after) i (omega arith) (omega arith);
       }
-    where
-      to-zero : (f : ℕ → List Test) (i : ℕ) → Hold (f (0 + i)) → Hold (f i)
-      to-zero f i h = let e : 0 + i ≡ i = omega arith in rw e at h
 
   pub accepts : AllRules → admit memory m c map ≡ Accepted
   unfolding admit

@@ -24,8 +24,8 @@ Calm Q (done x) = Q x
 Calm Q (read b p f) = (v : ℕ) → v < 256 → Calm Q (f v)
 Calm Q (write b p v t) = OffPage p × (v < 256) × Calm Q t
 
-pub calm-bind : {A B : Type 0} (P : A → Type 0) (Q : B → Type 0) (t : Cycles A) (k : A → Cycles B) → Calm P t → ((x : A) → P x → Calm Q (k x)) →
-    Calm Q (t >>= k)
+pub calm-bind : {A B : Type 0} (P : A → Type 0) (Q : B → Type 0) (t : Cycles A) (k : A → Cycles B) → Calm P t →
+    ((x : A) → P x → Calm Q (k x)) → Calm Q (t >>= k)
 unfolding _>>=_
 calm-bind P Q (done x) k c h = h x c
 calm-bind P Q (read b p f) k c h = λ v n. calm-bind P Q (f v) k (c v n) h

@@ -9,7 +9,7 @@ use lib.Dec.{leb}
 use lib.ListN.{length, set}
 use Rattle.rules.specs.declared.Cpu.{Cpu}
 use Rattle.rules.specs.declared.Instruction.{Instruction}
-use Rattle.rules.specs.declared.Instruction.the-variants.{Brk, Jsr}
+use Rattle.rules.specs.declared.Instruction.the-variants.{Jsr}
 use Rattle.rules.specs.declared.Refusal.the-variants.{Place}
 use Rattle.rules.specs.Basics.{if_then_else_, at, address, sum16}
 use Rattle.rules.specs.Cycles.{_>>=_}
@@ -22,7 +22,7 @@ use Rattle.rules.specs.Interrupts.{resOf, nmiOf, irqOf, eventOf, interrupt, res
 use Rattle.rules.specs.Bus.{isProtected}
 use Rattle.admission_rules.specs.declared.Rules.{Rules}
 use Rattle.admission_rules.specs.Admission.{markAt, marksIn, testsOf, rulesOf, rulesAt}
-use Rattle.admission_rules.specs.Safety.{Stacked, Effect, none, clears, pushes, effectOf, effectAt, Unaltered}
+use Rattle.admission_rules.specs.Safety.{Stacked, Effect, clears, pushes, effectOf, effectAt, Unaltered}
 use Rattle.laws.proofs.Tests.{Hold, and-left, and-right}
 use Rattle.laws.proofs.Entries.{fetchedBy}
 use Rattle.admission_rules.proofs.Stacks.{lower, Stands, starts, altered, interrupts}
@@ -207,14 +207,14 @@ module _ (m₀ : List ℕ) (c : ℕ) (map : List ℕ) (ad : Admitted m₀ c map)
     pub named : e ≡ Execute → (i : ℕ) × (i < marksIn map) × (markAt map i .address ≡ u .pc)
     pub done : Done m₀ c map ad (effectAt e (effectHere u m)) (u .s) k (ends c (cyclesOf e u) m)
 
+  -- a step that executes nothing
+  away : {e : Event} {u : Cpu} {m : List ℕ} {k : Stacked} → (e ≡ Execute → ⊥) →
+      Done m₀ c map ad (effectAt e (effectHere u m)) (u .s) k (ends c (cyclesOf e u) m) → Well e u m k
+  away other d = record { defined = λ h. absurd (other h); named = λ h. absurd (other h); done = d }
+
   pub well-reset : (u : Cpu) (m : List ℕ) (k : Stacked) → Bytes u → Image m₀ c map ad m → Well Res u m k
   unfolding cyclesOf
-  well-reset u m k r i =
-      record {
-        defined = λ e. let z : _≡_ {A = ℕ} 0 1 = cc in absurd (omega arith);
-        named = λ e. let z : _≡_ {A = ℕ} 0 1 = cc in absurd (omega arith);
-        done = started u m k r i;
-      }
+  well-reset u m k r i = away (λ e. let z : _≡_ {A = ℕ} 0 1 = cc in omega arith) (started u m k r i)
 
   pub well : (u : Cpu) (m : List ℕ) (k : Stacked) → Ready m₀ c map ad u m k → (lines : ℕ) (last : Bool) →
       nmiOf lines ≡ false → Well (eventOf lines last u) u m k
@@ -231,12 +231,7 @@ module _ (m₀ : List ℕ) (c : ℕ) (map : List ℕ) (ad : Admitted m₀ c map)
           Well (if r then Res else if n && not last then Nmi else if q && not i then Irq else Execute) u m k
       go true n z q i e = well-reset u m k (g .registers) (g .image)
       go false true z q i e = absurd (false≢true (sym z))
-      go false false z true false e =
-          record {
-            defined = λ h. let z : _≡_ {A = ℕ} 0 1 = cc in absurd (omega arith);
-            named = λ h. let z : _≡_ {A = ℕ} 0 1 = cc in absurd (omega arith);
-            done = requested u m k g e;
-          }
+      go false false z true false e = away (λ h. let z : _≡_ {A = ℕ} 0 1 = cc in omega arith) (requested u m k g e)
       go false false z true true e = runs
       go false false z false i e = runs
 

@@ -164,7 +164,7 @@ module _ (m₀ : List ℕ) (c : ℕ) (map : List ℕ) (ad : Admitted m₀ c map)
     unfolding perform
     does-store o d h t =
         let s = place-calm map (v .i) w d _ (at-pc n) h t in
-        let on = follows n (s .rest .0) in
+        let on = follows n (s .follows) in
         calm-done _ (calm-bind OffPage Lands (place w d) _ (s .calm)
         (λ p off. (off, register-byte o w (at-pc n), next-lands on w (same-on w (at-pc n)))))
 
@@ -172,7 +172,7 @@ module _ (m₀ : List ℕ) (c : ℕ) (map : List ℕ) (ad : Admitted m₀ c map)
     unfolding perform _>>=_
     does-change o d h t =
         let s = place-calm map (v .i) w d _ (at-pc n) h t in
-        let on = follows n (s .rest .0) in
+        let on = follows n (s .follows) in
         calm-done _ (calm-bind OffPage Lands (place w d) _ (s .calm)
         (λ p off x q. (off, q, (off, changed-good o x (u .p) q .value, next-lands on _ (changed-on o x w (at-pc n) q)))))
 

@@ -11,13 +11,14 @@ use Rattle.rules.specs.declared.Cpu.{Cpu}
 use Rattle.rules.specs.declared.Mode.{Mode}
 use Rattle.rules.specs.declared.Mode.the-variants.{Immediate, Zero, ZeroX, ZeroY, Absolute, AbsoluteX, AbsoluteY, IndirectX, IndirectY, IndirectBankY}
 use Rattle.rules.specs.declared.Refusal.{Refusal}
-use Rattle.rules.specs.declared.Refusal.the-variants.{Place, StoreAddress}
+use Rattle.rules.specs.declared.Refusal.the-variants.{StoreAddress}
 use Rattle.rules.specs.Basics.{if_then_else_, address, sum16}
 use Rattle.rules.specs.Cycles.{Bank, execution, indirect, _>>=_}
 use Rattle.rules.specs.Addressing.{load, place, pointer, zeroIndexed, indexed, crosses, loadIndexed}
+use Rattle.admission_rules.specs.declared.Successor.{Successor}
 use Rattle.admission_rules.specs.declared.Rules.{Rules}
 use Rattle.admission_rules.specs.declared.Rules.the-variants.{Broken}
-use Rattle.admission_rules.specs.Admission.{testsOf, outside, storeRules}
+use Rattle.admission_rules.specs.Admission.{reached, testsOf, one, outside, storeRules}
 use Rattle.laws.proofs.Tests.{Hold, if-case}
 use Rattle.admission_rules.proofs.Calm.{OffPage, Calm}
 
@@ -71,36 +72,34 @@ base-off a i ha hi t e = go (decLe 1 a) (decLe a 511) (decLe 65536 (a + i))
     go (yes p) (no q) (yes d) = omega arith
     go (yes p) (no q) (no d) = omega arith
 
--- by the rules of a store its data is off the stack page, and the rules r behind them hold
-pub record Stored (map : List ℕ) (i : ℕ) (c : Cpu) (d : Mode) (r : Rules) : Type 0 where
+-- by the rules of a store its data is off the stack page, and the successor is as it is asked to be
+pub record Stored (map : List ℕ) (c : Cpu) (d : Mode) (s : Successor) : Type 0 where
   pub calm : Calm OffPage (place c d)
-  pub rest : Hold (testsOf map i r)
+  pub follows : reached map s ≡ true
 
 module _ (map : List ℕ) (i : ℕ) where
-  broken : (e : Refusal) → Hold (testsOf map i (Broken e)) → ⊥
-  broken e t = false≢true (t .0)
-
   -- the rules of a record that are asked where one of its own holds
   pub unbroken : (b : Bool) (e : Refusal) (r : Rules) → Hold (testsOf map i (if b then r else Broken e)) →
       (b ≡ true) × Hold (testsOf map i r)
   unbroken true e r t = (refl, t)
-  unbroken false e r t = absurd (broken e t)
+  unbroken false e r t = absurd (false≢true (t .0))
 
-  pub place-calm : (c : Cpu) (d : Mode) (r : Rules) → Bytes c → Small d → Hold (testsOf map i (storeRules i d r)) → Stored map i c d r
+  pub place-calm : (c : Cpu) (d : Mode) (s : Successor) → Bytes c → Small d → Hold (testsOf map i (storeRules i d (one s))) →
+      Stored map c d s
   unfolding place zeroIndexed pointer indexed _>>=_
-  place-calm c (Immediate v) r b h t = record { calm = λ e. omega arith; rest = t }
-  place-calm c (Zero z) r b h t = record { calm = λ e. omega arith; rest = t }
-  place-calm c (ZeroX z) r b h t = record { calm = λ u o e. omega arith; rest = t }
-  place-calm c (ZeroY z) r b h t = record { calm = λ u o e. omega arith; rest = t }
-  place-calm c (Absolute low high) r b h t =
-      let u = unbroken (outside 0x0100 (address low high)) (StoreAddress i) r t in
-      record { calm = λ e. not-within 256 (address low high) 511 (u .0) (omega arith) (omega arith); rest = u .1 }
-  place-calm c (AbsoluteX low high) r b h t =
-      let u = unbroken (outside 0x0001 (address low high)) (StoreAddress i) r t in
-      record { calm = λ v o. base-off (address low high) (c .x) h (b .x) (u .0); rest = u .1 }
-  place-calm c (AbsoluteY low high) r b h t =
-      let u = unbroken (outside 0x0001 (address low high)) (StoreAddress i) r t in
-      record { calm = λ v o. base-off (address low high) (c .y) h (b .y) (u .0); rest = u .1 }
-  place-calm c (IndirectX z) r b h t = absurd (broken (Place i) t)
-  place-calm c (IndirectY z) r b h t = absurd (broken (Place i) t)
-  place-calm c (IndirectBankY z) r b h t = absurd (broken (Place i) t)
+  place-calm c (Immediate v) s b h t = record { calm = λ e. omega arith; follows = t .0 }
+  place-calm c (Zero z) s b h t = record { calm = λ e. omega arith; follows = t .0 }
+  place-calm c (ZeroX z) s b h t = record { calm = λ u o e. omega arith; follows = t .0 }
+  place-calm c (ZeroY z) s b h t = record { calm = λ u o e. omega arith; follows = t .0 }
+  place-calm c (Absolute low high) s b h t =
+      let u = unbroken (outside 0x0100 (address low high)) (StoreAddress i) (one s) t in
+      record { calm = λ e. not-within 256 (address low high) 511 (u .0) (omega arith) (omega arith); follows = u .1 .0 }
+  place-calm c (AbsoluteX low high) s b h t =
+      let u = unbroken (outside 0x0001 (address low high)) (StoreAddress i) (one s) t in
+      record { calm = λ v o. base-off (address low high) (c .x) h (b .x) (u .0); follows = u .1 .0 }
+  place-calm c (AbsoluteY low high) s b h t =
+      let u = unbroken (outside 0x0001 (address low high)) (StoreAddress i) (one s) t in
+      record { calm = λ v o. base-off (address low high) (c .y) h (b .y) (u .0); follows = u .1 .0 }
+  place-calm c (IndirectX z) s b h t = absurd (false≢true (t .0))
+  place-calm c (IndirectY z) s b h t = absurd (false≢true (t .0))
+  place-calm c (IndirectBankY z) s b h t = absurd (false≢true (t .0))

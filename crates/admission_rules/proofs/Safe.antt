@@ -22,7 +22,7 @@ use Rattle.rules.specs.Bus.{resetBus, images, World}
 use Rattle.rules.specs.Record.{stateOf, recordOf, wellFormed}
 use Rattle.rules.specs.Step.{Outcome, busAt, ranOf, stateAfter, finished, opcodeOf, canStep, refused, stepTests, step}
 use Rattle.rules.specs.Run.{Tally, stepAt, moved, played, stopped, goesOn, play, start, runTests, runOf}
-use Rattle.admission_rules.specs.Safety.{Stacked, Effect, effectAt, stackedAfter, pushesOf, stackWrites, Call, ProperScript, Proper, stateIn, eventIn, effect, Plays, Calls, Admissible, Safe, Demand3}
+use Rattle.admission_rules.specs.Safety.{Stacked, Effect, effectAt, stackedAfter, pushesOf, stackWrites, Call, ProperScript, Proper, stateIn, eventIn, effect, Plays, History, Admissible, Safe, Demand3}
 use Rattle.laws.proofs.Tests.{Hold, tested-all}
 use Rattle.laws.proofs.Records.{read-again}
 use Rattle.laws.proofs.Steps.{lawful}
@@ -86,8 +86,8 @@ module _ (m₀ : List ℕ) (c : ℕ) (map : List ℕ) (ad : Admitted m₀ c map)
     ready : Ready m₀ c map ad (cpuIn (o .state)) (o .image) (stackedAfter e k)
 
   after : (lines : ℕ) (u : State) (buffer : List ℕ) (b : Bus) (is : b .part ≡ 2) (ran : Ran (World (List ℕ)) Cpu) (x : End Cpu) →
-      Ended b is ran x → (e : Effect) (s : ℕ) (k : Stacked) → x .writes ≡ pushesOf e s → Ready m₀ c map ad (x .value) (x .image) (stackedAfter e k) →
-      After e s k (finished lines u ran buffer)
+      Ended b is ran x → (e : Effect) (s : ℕ) (k : Stacked) → x .writes ≡ pushesOf e s →
+      Ready m₀ c map ad (x .value) (x .image) (stackedAfter e k) → After e s k (finished lines u ran buffer)
   unfolding finished stateOf
   after lines u buffer b is ran x h e s k only ready =
       let v = stateAfter lines u ran in
@@ -101,7 +101,7 @@ module _ (m₀ : List ℕ) (c : ℕ) (map : List ℕ) (ad : Admitted m₀ c map)
 
   module _ (lines pins : ℕ) (s : Outcome Tally (List ℕ)) (k : Stacked) (six : Sixteen c (s .state)) where
     abbrev u : State
-    u = stateIn lines pins s
+    u = stateIn pins s
 
     abbrev e : Event
     e = eventIn lines pins s
@@ -164,9 +164,8 @@ module _ (m₀ : List ℕ) (c : ℕ) (map : List ℕ) (ad : Admitted m₀ c map)
 
       -- it is fine, and so is the rest of the script if it is so from there
       step-plays : (Then : Outcome Tally (List ℕ) → Stacked → Type 0) (script : List ℕ) → Room (lines ∷ pins ∷ script) s →
-          (Sixteen c (next .state) → Ready m₀ c map ad (cpuIn (next .state)) (next .image) (stackedAfter (effect lines pins s) k) →
-          Room script next → play images (lines ∷ pins ∷ script) s ≡ play images script next →
-          Plays map Then script next (stackedAfter (effect lines pins s) k)) →
+          ((t : Outcome Tally (List ℕ)) (l : Stacked) → Sixteen c (t .state) → Ready m₀ c map ad (cpuIn (t .state)) (t .image) l →
+          Room script t → play images (lines ∷ pins ∷ script) s ≡ play images script t → Plays map Then script t l) →
           Plays map Then (lines ∷ pins ∷ script) s k
       unfolding play
       step-plays Then script h on =
@@ -185,7 +184,8 @@ module _ (m₀ : List ℕ) (c : ℕ) (map : List ℕ) (ad : Admitted m₀ c map)
               least = omega (arith, n .0);
               most = omega (arith, n .1);
             },
-            on (record { size = d .record-size; formed = d .record-formed; part = d .part ∙ six .part; pages = d .pages ∙ six .pages })
+            on next (stackedAfter (effect lines pins s) k)
+                (record { size = d .record-size; formed = d .record-formed; part = d .part ∙ six .part; pages = d .pages ∙ six .pages })
                 (a .ready) later (ap (λ (x : StepAnswer). goesOn (play images script) s o x) (a .answered)),
           )
 
@@ -194,7 +194,7 @@ module _ (m₀ : List ℕ) (c : ℕ) (map : List ℕ) (ad : Admitted m₀ c map)
   Begins [] s k = Ready m₀ c map ad (cpuIn (s .state)) (s .image) k
   Begins (lines ∷ []) s k = ⊥
   Begins (lines ∷ pins ∷ script) s k =
-      (length (s .image) ≡ 65536) × Well m₀ c map ad (eventIn lines pins s) (stateIn lines pins s .cpu) (s .image) k
+      (length (s .image) ≡ 65536) × Well m₀ c map ad (eventIn lines pins s) (stateIn pins s .cpu) (s .image) k
 
   begins : (script : List ℕ) (s : Outcome Tally (List ℕ)) (k : Stacked) → ProperScript script →
       Ready m₀ c map ad (cpuIn (s .state)) (s .image) k → Begins script s k
@@ -203,7 +203,7 @@ module _ (m₀ : List ℕ) (c : ℕ) (map : List ℕ) (ad : Admitted m₀ c map)
   begins (lines ∷ []) s k p ready = p
   begins (lines ∷ pins ∷ script) s k p ready = (
     ready .image .size,
-    well m₀ c map ad (cpuIn (s .state)) (s .image) k ready lines (stateIn lines pins s .nmi) (p .1),
+    well m₀ c map ad (cpuIn (s .state)) (s .image) k ready lines (stateIn pins s .nmi) (p .1),
   )
 
   -- from a reset on
@@ -229,8 +229,8 @@ module _ (m₀ : List ℕ) (c : ℕ) (map : List ℕ) (ad : Admitted m₀ c map)
       let left : 56 ≤ length (drop (8 * s .answer .listed) (s .accesses)) =
       omega (arith, length-drop (8 * s .answer .listed) (s .accesses)) in
       step-plays lines pins s k six (b .0) (p .0) (p .2) left (b .1) Then script room
-      (λ again ready later same. plays Then script _ _ again (begins script _ _ (p .3) ready) (p .3) later
-      (λ t l sixteen there e. end t l sixteen there (same ∙ e)))
+      (λ t l again ready later same. plays Then script t l again (begins script t l (p .3) ready) (p .3) later
+      (λ v n sixteen there e. end v n sixteen there (same ∙ e)))
 
   -- where a call leaves off, the next may go on
   module _ (x : Call) (r : List ℕ) (k : Stacked) (six : Sixteen c r) (size : length (x .image) ≡ 65536) (p : Proper x) where
@@ -249,20 +249,20 @@ module _ (m₀ : List ℕ) (c : ℕ) (map : List ℕ) (ad : Admitted m₀ c map)
         plays _ (x .script) (startOf r x) k six b (p .script) (omega (arith, p .room))
         (λ t l sixteen there e. (run-is ∙ e, end t l sixteen there))
 
-  calls : (xs : List Call) (r m : List ℕ) (k : Stacked) → Sixteen c r → Ready m₀ c map ad (cpuIn r) m k → Calls c map r m k xs
-  calls [] r m k six ready = tt
-  calls (x ∷ xs) r m k six ready = λ o p.
+  history : (xs : List Call) (r m : List ℕ) (k : Stacked) → Sixteen c r → Ready m₀ c map ad (cpuIn r) m k → History c map r m k xs
+  history [] r m k six ready = tt
+  history (x ∷ xs) r m k six ready = λ o p.
       let now = others m₀ c map ad (cpuIn r) m (x .image) k ready o in
       call-plays x r k six (now .image .size) p _ (begins (x .script) (startOf r x) k (p .script) now)
-      (λ t l sixteen there. calls xs (t .state) (t .image) l sixteen there)
+      (λ t l sixteen there. history xs (t .state) (t .image) l sixteen there)
 
   -- from the first call on, which begins with a reset
-  all-calls : Safe m₀ c map
-  all-calls r a x xs first = λ o p.
+  from-reset : Safe m₀ c map
+  from-reset r a x xs first = λ o p.
       let k : Stacked = record { pushed = 0; pulled = 0 } in
       let image = others-image m₀ c map ad m₀ (x .image) (ad .size) (λ q h. refl) o in
       call-plays x r k (sixteen c r a) (image .size) p _ (resets (x .script) (startOf r x) k (p .script) first (register-bytes c r a) image)
-      (λ t l sixteen there. calls xs (t .state) (t .image) l sixteen there)
+      (λ t l sixteen there. history xs (t .state) (t .image) l sixteen there)
 
 -- a step by itself is the one step of the call that has its lines and pins
 alone : (r m : List ℕ) (lines pins : ℕ) (buffer : List ℕ) →
@@ -270,4 +270,4 @@ alone : (r m : List ℕ) (lines pins : ℕ) (buffer : List ℕ) →
 alone r m lines pins buffer = refl
 
 pub demand3 : Demand3
-demand3 m c map e = all-calls m c map (admitted m c map e)
+demand3 m c map e = from-reset m c map (admitted m c map e)

@@ -87,12 +87,14 @@ module _ (map : List ℕ) (N : ℕ) where
   abbrev pub Chain : ℕ → List Frame → Bool → Type 0
   Chain kind [] busy = (kind ≡ main) × (busy ≡ false)
   Chain kind (called i low high own ∷ fs) busy =
-      (kind ≡ routine) × Goes i own (bytesOf fs) busy × (sum16 (address low high) 1 ≡ markAt map i .address) × Chain (markAt map i .kind) fs busy
+      (kind ≡ routine) × Goes i own (bytesOf fs) busy × (sum16 (address low high) 1 ≡ markAt map i .address) ×
+      Chain (markAt map i .kind) fs busy
   Chain kind (interrupted i p low high own ∷ fs) busy =
       (kind ≡ handler) × (busy ≡ true) × Goes i own (bytesOf fs) false × (address low high ≡ markAt map i .address) ×
       Chain (markAt map i .kind) fs false
 
-  -- Between two steps: PC stands at a mark, which has its height in bytes on the stack, and room for its need; I is set while a handler runs.
+  -- Between two steps: PC stands at a mark, which has its height in bytes on the stack, and room for its need; I is set while a handler
+  -- runs.
   pub record Stands (s : ℕ) (flag : Bool) (pc : ℕ) (m : List ℕ) (k : Stacked) : Type 0 where
     pub i : ℕ
     pub own : List ℕ
@@ -110,7 +112,8 @@ module _ (map : List ℕ) (N : ℕ) where
   most-256 h false = omega arith
 
   -- a reset, or TXS: nothing is on the stack
-  pub starts : (s : ℕ) (flag : Bool) (pc : ℕ) (m : List ℕ) → Leads map pc main 0 0 N → Stands s flag pc m (record { pushed = 0; pulled = 0 })
+  pub starts : (s : ℕ) (flag : Bool) (pc : ℕ) (m : List ℕ) → Leads map pc main 0 0 N →
+      Stands s flag pc m (record { pushed = 0; pulled = 0 })
   starts s flag pc m x =
       record {
         i = x .i;
@@ -169,8 +172,8 @@ module _ (map : List ℕ) (N : ℕ) where
         }
 
     -- on in the same routine, the stack as it was
-    pub stays : (flag′ : Bool) (pc′ : ℕ) (m′ : List ℕ) → Leads map pc′ kind height 0 need → (v .busy ≡ true → flag′ ≡ true) → SamePage m m′ →
-        Stands s flag′ pc′ m′ k
+    pub stays : (flag′ : Bool) (pc′ : ℕ) (m′ : List ℕ) → Leads map pc′ kind height 0 need → (v .busy ≡ true → flag′ ≡ true) →
+        SamePage m m′ → Stands s flag′ pc′ m′ k
     stays flag′ pc′ m′ x masked same =
         record {
           i = x .i;
@@ -196,7 +199,9 @@ module _ (map : List ℕ) (N : ℕ) where
           own = b ∷ v .own;
           frames = v .frames;
           busy = v .busy;
-          goes = record { within = x .within; height = omega (arith, v .goes .height, x .height); room = omega (arith, v .goes .room, x .need) };
+          goes =
+              let g = v .goes in
+              record { within = x .within; height = omega (arith, g .height, x .height); room = omega (arith, g .room, x .need) };
           address = x .address;
           chain = rw (x .kind) (v .chain);
           masked = v .masked;
@@ -230,7 +235,8 @@ module _ (map : List ℕ) (N : ℕ) where
     -- JSR
     pub calls : N ≤ 253 → s < 256 → length m ≡ 65536 → (low high back to : ℕ) → sum16 (address low high) 1 ≡ back →
         Leads map back kind height 0 need → Leads map to routine 0 2 need →
-        Stands (down 2 s) flag to (set (set m (stack s) high) (stack (down 1 s)) low) (record { pushed = k .pushed + 2; pulled = k .pulled })
+        Stands (down 2 s) flag to (set (set m (stack s) high) (stack (down 1 s)) low)
+        (record { pushed = k .pushed + 2; pulled = k .pulled })
     calls n hs size low high back to e x y =
         let top = most-256 n (v .busy) in
         let whole = length-append (v .own) (bytesOf (v .frames)) in
@@ -251,8 +257,8 @@ module _ (map : List ℕ) (N : ℕ) where
           masked = v .masked;
           holds =
               rw (lower s 1 hs (omega arith)) at
-              (holds-push (set m (stack s) high) (down 1 s) low (high ∷ bytes) (omega arith) (omega arith) (length-set m (stack s) high ∙ size)
-              (holds-push m s high bytes hs (omega arith) size (v .holds)));
+              (holds-push (set m (stack s) high) (down 1 s) low (high ∷ bytes) (omega arith) (omega arith)
+              (length-set m (stack s) high ∙ size) (holds-push m s high bytes hs (omega arith) size (v .holds)));
           counted = omega (arith, v .counted);
         }
 
@@ -261,9 +267,9 @@ module _ (map : List ℕ) (N : ℕ) where
     After d flag′ pc′ = Stands (sum8 s d) flag′ pc′ m (record { pushed = k .pushed; pulled = k .pulled + d })
 
     -- they were a frame's, and its mark goes on with its own
-    goes-on : (d : ℕ) {flag′ : Bool} {pc′ i : ℕ} (own : List ℕ) (fs : List Frame) {busy : Bool} → Goes i own (bytesOf fs) busy → markAt map i .address ≡ pc′ →
-        Chain (markAt map i .kind) fs busy → (busy ≡ true → flag′ ≡ true) → Holds m (sum8 s d) (own ++ bytesOf fs) →
-        k .pushed ≡ k .pulled + (d + length (own ++ bytesOf fs)) → After d flag′ pc′
+    goes-on : (d : ℕ) {flag′ : Bool} {pc′ i : ℕ} (own : List ℕ) (fs : List Frame) {busy : Bool} → Goes i own (bytesOf fs) busy →
+        markAt map i .address ≡ pc′ → Chain (markAt map i .kind) fs busy → (busy ≡ true → flag′ ≡ true) →
+        Holds m (sum8 s d) (own ++ bytesOf fs) → k .pushed ≡ k .pulled + (d + length (own ++ bytesOf fs)) → After d flag′ pc′
     goes-on d {i = i} own fs {busy = busy} goes address chain masked holds n =
         record {
           i = i;
@@ -278,12 +284,21 @@ module _ (map : List ℕ) (N : ℕ) where
           counted = omega (arith, length-append own (bytesOf fs));
         }
 
+    -- A if own and fs are what is on the stack
+    abbrev Above : List ℕ → List Frame → Type 0 → Type 0
+    Above own fs A =
+        Goes (v .i) own (bytesOf fs) (v .busy) → Chain kind fs (v .busy) → Holds m s (own ++ bytesOf fs) →
+        k .pushed ≡ k .pulled + length own + length (bytesOf fs) → A
+
+    -- the j-th byte that is pulled
+    abbrev byteAt : ℕ → ℕ
+    byteAt j = at m (stack (sum8 s j))
+
     -- RTS
-    pub returns : kind ≡ routine → height ≡ 0 → After 2 flag (sum16 (address (at m (stack (sum8 s 1))) (at m (stack (sum8 s 2)))) 1)
+    pub returns : kind ≡ routine → height ≡ 0 → After 2 flag (sum16 (address (byteAt 1) (byteAt 2)) 1)
     returns hk hh = go (v .own) (v .frames) (v .goes) (v .chain) (v .holds) (v .counted)
       where
-        go : (own : List ℕ) (fs : List Frame) → Goes (v .i) own (bytesOf fs) (v .busy) → Chain kind fs (v .busy) → Holds m s (own ++ bytesOf fs) →
-            k .pushed ≡ k .pulled + length own + length (bytesOf fs) → After 2 flag (sum16 (address (at m (stack (sum8 s 1))) (at m (stack (sum8 s 2)))) 1)
+        go : (own : List ℕ) (fs : List Frame) → Above own fs (After 2 flag (sum16 (address (byteAt 1) (byteAt 2)) 1))
         go (b ∷ own) fs g c z n = absurd (omega (arith, g .height))
         go [] [] g c z n = absurd (omega (arith, c .0))
         go [] (interrupted i p low high own ∷ fs) g c z n = absurd (omega (arith, c .0))
@@ -293,11 +308,10 @@ module _ (map : List ℕ) (N : ℕ) where
             goes-on 2 own fs on (rw (y .0, y .1 .0) (sym back)) c (v .masked) (y .1 .1) (omega arith)
 
     -- RTI: whatever P was pulled, no handler runs any more
-    pub goes-back : (flag′ : Bool) → kind ≡ handler → height ≡ 0 → After 3 flag′ (address (at m (stack (sum8 s 2))) (at m (stack (sum8 s 3))))
+    pub goes-back : (flag′ : Bool) → kind ≡ handler → height ≡ 0 → After 3 flag′ (address (byteAt 2) (byteAt 3))
     goes-back flag′ hk hh = go (v .own) (v .frames) (v .goes) (v .chain) (v .holds) (v .counted)
       where
-        go : (own : List ℕ) (fs : List Frame) → Goes (v .i) own (bytesOf fs) (v .busy) → Chain kind fs (v .busy) → Holds m s (own ++ bytesOf fs) →
-            k .pushed ≡ k .pulled + length own + length (bytesOf fs) → After 3 flag′ (address (at m (stack (sum8 s 2))) (at m (stack (sum8 s 3))))
+        go : (own : List ℕ) (fs : List Frame) → Above own fs (After 3 flag′ (address (byteAt 2) (byteAt 3)))
         go (b ∷ own) fs g c z n = absurd (omega (arith, g .height))
         go [] [] g c z n = absurd (omega (arith, c .0))
         go [] (called i low high own ∷ fs) g c z n = absurd (omega (arith, c .0))
@@ -308,7 +322,8 @@ module _ (map : List ℕ) (N : ℕ) where
             goes-on 3 own fs on (rw (y .1 .0, y .1 .1 .0) (sym back)) c (λ h. absurd (false≢true h)) (y .1 .1 .1) (omega arith)
 
     -- IRQ: it is taken only where no handler runs
-    pub interrupts : flag ≡ false → s < 256 → length m ≡ 65536 → (p low high to H : ℕ) → address low high ≡ pc → N + H + 3 ≤ 256 → Leads map to handler 0 0 H →
+    pub interrupts : flag ≡ false → s < 256 → length m ≡ 65536 → (p low high to H : ℕ) → address low high ≡ pc → N + H + 3 ≤ 256 →
+        Leads map to handler 0 0 H →
         Stands (down 3 s) true to (set (set (set m (stack s) high) (stack (down 1 s)) low) (stack (down 2 s)) p)
         (record { pushed = k .pushed + 3; pulled = k .pulled })
     interrupts clear hs size p low high to H e n y = go (v .busy) (v .masked) (v .goes) (v .chain)

@@ -1,10 +1,10 @@
 -- Demand 3 of an accepted image, clause by clause; in brackets the definition that says it.
 --   If the part is first reset [Safe] from a well-formed 6502 record with the same protected pages [Admissible],
---   each step gets that same image as it then stands, the record the last one left [Calls, Plays],
+--   each step gets that same image as it then stands, the record the last one left [History, Plays],
 --   list room for one step [Proper] and lines and pins the part has, the non-maskable line stays quiet [ProperScript],
 --   and after admission nobody else alters the stack page or the write-protected pages [Unaltered],
 --   then under any further resets and interrupt requests
---   no step refuses [Fine.answered; of a run as well, Calls],
+--   no step refuses [Fine.answered; nor does a run, History],
 --   every instruction run is one the map names [Fine.named],
 --   only pushes write the stack page [Fine.only],
 --   and the bytes on the stack since the last reset or stack-pointer load [Stacked] stay between 0 and 256 [Fine.least, Fine.most].
@@ -18,7 +18,6 @@ use Rattle.rules.specs.declared.State.{State}
 use Rattle.rules.specs.declared.Stacking.the-variants.{Php, Plp, Pha, Pla, Rts, Rti}
 use Rattle.rules.specs.declared.Instruction.{Instruction}
 use Rattle.rules.specs.declared.Instruction.the-variants.{Read, Store, Change, Accumulator, Implied, AtStack, Branch, Jump, JumpIndirect, Jsr, Brk, Txs, Cli, Undefined}
-use Rattle.rules.specs.declared.StepAnswer.{StepAnswer}
 use Rattle.rules.specs.declared.StepAnswer.the-variants.{Stepped}
 use Rattle.rules.specs.declared.Verdict.the-variants.{Accepted}
 use Rattle.rules.specs.Basics.{if_then_else_, at, address, sum16}
@@ -120,20 +119,21 @@ pub record Unaltered (c : ℕ) (m m′ : List ℕ) : Type 0 where
   pub stackPage : (p : ℕ) → p / 256 ≡ 1 → at m′ p ≡ at m p
   pub protectedPages : (p : ℕ) → isProtected c p ≡ true → at m′ p ≡ at m p
 
--- the next step of a call that stands at s (a step by itself stands at its `start`)
-module _ (lines pins : ℕ) (s : Outcome Tally (List ℕ)) where
-  abbrev pub stateIn : State
-  stateIn = stateNow images (s .state) (s .image) pins
+-- the state of a call that stands at s (a step by itself stands at its `start`)
+abbrev pub stateIn : ℕ → Outcome Tally (List ℕ) → State
+stateIn pins s = stateNow images (s .state) (s .image) pins
 
+-- its next step
+module _ (lines pins : ℕ) (s : Outcome Tally (List ℕ)) where
   abbrev pub eventIn : Event
   eventIn = eventNow images (s .state) (s .image) lines pins
 
   abbrev pub effect : Effect
   effect =
-      let pc = stateIn .cpu .pc in
-      let low = at (s .image) (sum16 pc 1) in
-      let high = at (s .image) (sum16 pc 2) in
-      effectAt eventIn (effectOf (instructionOf (decode (opcodeOf images stateIn (s .image))) low high))
+      let u = stateIn pins s in
+      let low = at (s .image) (sum16 (u .cpu .pc) 1) in
+      let high = at (s .image) (sum16 (u .cpu .pc) 2) in
+      effectAt eventIn (effectOf (instructionOf (decode (opcodeOf images u (s .image))) low high))
 
   -- what is promised of it, where k bytes were on the stack
   pub record Fine (map : List ℕ) (k : Stacked) : Type 0 where
@@ -141,9 +141,9 @@ module _ (lines pins : ℕ) (s : Outcome Tally (List ℕ)) where
     pub accesses : ℕ
     pub answered : stepAt images lines pins s .answer ≡ Stepped accesses
     -- the map names the instruction that it runs
-    pub named : eventIn ≡ Execute → (i : ℕ) × (i < marksIn map) × (markAt map i .address ≡ stateIn .cpu .pc)
+    pub named : eventIn ≡ Execute → (i : ℕ) × (i < marksIn map) × (markAt map i .address ≡ stateIn pins s .cpu .pc)
     -- it writes the stack page only by its pushes
-    pub only : stackWrites accesses (stepAt images lines pins s .accesses) ≡ pushesOf effect (stateIn .cpu .s)
+    pub only : stackWrites accesses (stepAt images lines pins s .accesses) ≡ pushesOf effect (stateIn pins s .cpu .s)
     -- it leaves 0 to 256 bytes on the stack
     pub least : stackedAfter effect k .pulled ≤ stackedAfter effect k .pushed
     pub most : stackedAfter effect k .pushed ≤ stackedAfter effect k .pulled + 256
@@ -156,14 +156,14 @@ Plays map Then (lines ∷ pins ∷ script) s k =
     (fine : Fine lines pins s map k) ×
     Plays map Then script (moved s (stepAt images lines pins s) (fine .accesses)) (stackedAfter (effect lines pins s) k)
 
--- All calls, each with the record that the last one left and the image that it left, but for what others altered. A run plays to its end:
--- it leaves what its steps leave, and answers how many they were and what they listed.
-abbrev pub Calls : ℕ → List ℕ → List ℕ → List ℕ → Stacked → List Call → Type 0
-Calls c map r m k [] = Unit {0}
-Calls c map r m k (call ∷ calls) =
+-- Calls one after the other, each with the record that the last one left and the image that it left, but for what others altered. A run
+-- plays to its end: it leaves what its last step leaves, and answers how many steps it did and how many accesses they listed.
+abbrev pub History : ℕ → List ℕ → List ℕ → List ℕ → Stacked → List Call → Type 0
+History c map r m k [] = Unit {0}
+History c map r m k (call ∷ later) =
     Unaltered c m (call .image) → Proper call →
     Plays map
-    (λ s k. (runOf images r (call .image) (call .script) (call .buffer) ≡ played s) × Calls c map (s .state) (s .image) k calls)
+    (λ s k. (runOf images r (call .image) (call .script) (call .buffer) ≡ played s) × History c map (s .state) (s .image) k later)
     (call .script) (start r (call .image) (call .buffer)) k
 
 -- a well-formed 6502 record with these protected pages
@@ -177,8 +177,8 @@ pub record Admissible (c : ℕ) (r : List ℕ) : Type 0 where
 -- every sequence of calls from such a record, of which the first begins with a reset
 abbrev pub Safe : List ℕ → ℕ → List ℕ → Type 0
 Safe m c map =
-    (r : List ℕ) → Admissible c r → (call : Call) (calls : List Call) → resOf (at (call .script) 0) ≡ true →
-    Calls c map r m (record { pushed = 0; pulled = 0 }) (call ∷ calls)
+    (r : List ℕ) → Admissible c r → (call : Call) (later : List Call) → resOf (at (call .script) 0) ≡ true →
+    History c map r m (record { pushed = 0; pulled = 0 }) (call ∷ later)
 
 -- the demand: what admission accepts is safe
 abbrev pub Demand3 : Type 0
