@@ -13,7 +13,7 @@ use Rattle.rules.specs.declared.Event.{Event}
 use Rattle.rules.specs.Bus.{images}
 use Rattle.rules.specs.Record.{stateOf}
 use Rattle.rules.specs.Step.{Outcome}
-use Rattle.rules.specs.Run.{Tally, moved, stopped, goesOn, play, start, runTests, runOf}
+use Rattle.rules.specs.Run.{Tally, further, stopped, continued, play, start, runTests, runOf}
 use Rattle.admission_rules.specs.Admission.{admit}
 use Rattle.admission_rules.specs.Safety.{Stacked, stackedAfter, Given, Proper, stateIn, eventIn, outcome, effect, ProperScript, PlaysOut}
 use Rattle.laws.proofs.Tests.{Hold, tested-all}
@@ -60,13 +60,13 @@ module _ (m₀ : List ℕ) (c : ℕ) (map : List ℕ) (ad : Admitted m₀ c map)
       let n = a .accesses in
       let d = lawful images (s .state) (s .image) lines pins (g .buffer) .moves n (a .answered) in
       let before = length-take-le i (s .accesses) (omega arith) in
-      let later : Room rest (moved images s o n) =
+      let later : Room rest (further images s o n) =
       omega (arith, d .most, d .size, before, length-append (take i (s .accesses)) (o .accesses), length-drop i (s .accesses)) in
-      let played = on (moved images s o n)
+      let played = on (further images s o n)
       (record { k = stackedAfter (effect (s .state) g) k; six = again m₀ c map ad (s .state) g k six size proper w; ready = a .ready }) later in
       let steps : s .answer .steps + 1 + length rest / 2 ≡ s .answer .steps + suc (suc (length rest)) / 2 = omega arith in (
         played .0,
-        ap (λ (x : StepAnswer). goesOn images (play images rest) s o x .answer) (a .answered) ∙ played .1 ∙ ap (λ (x : ℕ). Played x (played .0)) steps,
+        ap (λ (x : StepAnswer). continued images (play images rest) s o x .answer) (a .answered) ∙ played .1 ∙ ap (λ (x : ℕ). Played x (played .0)) steps,
       )
 
   plays : (script : List ℕ) (s : Outcome Tally (List ℕ)) → Between s → ProperScript script → Room script s → PlaysFrom script s

@@ -24,8 +24,8 @@ module _ {M : Type 0} (memory : Memory M) where
   stepAt lines pins s = step memory (s .state) (s .image) lines pins (drop (8 * s .answer .listed) (s .accesses))
 
   -- where the run stands after that step o, of n accesses
-  abbrev pub moved : Outcome Tally M → Outcome StepAnswer M → ℕ → Outcome Tally M
-  moved s o n =
+  abbrev pub further : Outcome Tally M → Outcome StepAnswer M → ℕ → Outcome Tally M
+  further s o n =
       record {
         answer = record { steps = s .answer .steps + 1; listed = s .answer .listed + n };
         state = o .state;
@@ -44,15 +44,15 @@ module _ {M : Type 0} (memory : Memory M) where
   stopped s e = ended s (Stopped (s .answer .steps) (s .answer .listed) e)
 
   -- after a step o that answered so: the rest of the run, or its end
-  abbrev pub goesOn : (Outcome Tally M → Outcome RunAnswer M) → Outcome Tally M → Outcome StepAnswer M → StepAnswer → Outcome RunAnswer M
-  goesOn rest s o (Stepped n) = rest (moved s o n)
-  goesOn rest s o (Refused e) = stopped s e
+  abbrev pub continued : (Outcome Tally M → Outcome RunAnswer M) → Outcome Tally M → Outcome StepAnswer M → StepAnswer → Outcome RunAnswer M
+  continued rest s o (Stepped n) = rest (further s o n)
+  continued rest s o (Refused e) = stopped s e
 
   -- step by step to the script's end; its length is even
   unfoldable pub play : List ℕ → Outcome Tally M → Outcome RunAnswer M
   play [] s = played s
   play (lines ∷ []) s = played s
-  play (lines ∷ pins ∷ script) s = let o = stepAt lines pins s in goesOn (λ t. play script t) s o (o .answer)
+  play (lines ∷ pins ∷ script) s = let o = stepAt lines pins s in continued (λ t. play script t) s o (o .answer)
 
   module _ (r : List ℕ) (m : M) (script buffer : List ℕ) where
     abbrev pub start : Outcome Tally M

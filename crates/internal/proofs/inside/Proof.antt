@@ -79,9 +79,9 @@ returns-10 c = λ s e. rw (c .before .before .before .before .before .enum-told1
 returns-11 : tie.Need-returns-11
 unfolding inside recordOf
 returns-11 c =
-    let at-previous = c .before .before .before in
-    let at-enum-told11 = at-previous .before .before .before in
-    λ s e. rw (at-enum-told11 .enum-told11 .given .1) (rw (holds s e .x) at (makes-to 2 (at-previous .previous .ensures) (c .before .before .to5 .ensures) s e))
+    let at-one-less = c .before .before .before in
+    let at-enum-told11 = at-one-less .before .before .before in
+    λ s e. rw (at-enum-told11 .enum-told11 .given .1) (rw (holds s e .x) at (makes-to 2 (at-one-less .one-less .ensures) (c .before .before .to5 .ensures) s e))
 
 returns-12 : tie.Need-returns-12
 unfolding inside
@@ -90,9 +90,9 @@ returns-12 c = λ s e. rw (c .enum-told12 .given .1) e
 returns-13 : tie.Need-returns-13
 unfolding inside recordOf
 returns-13 c =
-    let at-previous2 = c .before .before .before in
-    let at-enum-told13 = at-previous2 .before .before .before in
-    λ s e. rw (at-enum-told13 .enum-told13 .given .1) (rw (holds s e .y) at (makes-to 3 (at-previous2 .previous2 .ensures) (c .before .before .to6 .ensures) s e))
+    let at-one-less2 = c .before .before .before in
+    let at-enum-told13 = at-one-less2 .before .before .before in
+    λ s e. rw (at-enum-told13 .enum-told13 .given .1) (rw (holds s e .y) at (makes-to 3 (at-one-less2 .one-less2 .ensures) (c .before .before .to6 .ensures) s e))
 
 returns-14 : tie.Need-returns-14
 unfolding inside recordOf
@@ -101,16 +101,16 @@ returns-14 c = λ s e. rw (c .before .before .before .before .before .enum-told1
 returns-15 : tie.Need-returns-15
 unfolding inside recordOf
 returns-15 c =
-    let at-next = c .before .before .before in
-    let at-enum-told15 = at-next .before .before .before in
-    λ s e. rw (at-enum-told15 .enum-told15 .given .1) (rw (holds s e .y) at (makes-to 3 (at-next .next .ensures) (c .before .before .to8 .ensures) s e))
+    let at-one-more = c .before .before .before in
+    let at-enum-told15 = at-one-more .before .before .before in
+    λ s e. rw (at-enum-told15 .enum-told15 .given .1) (rw (holds s e .y) at (makes-to 3 (at-one-more .one-more .ensures) (c .before .before .to8 .ensures) s e))
 
 returns-16 : tie.Need-returns-16
 unfolding inside recordOf
 returns-16 c =
-    let at-next2 = c .before .before .before in
-    let at-enum-told16 = at-next2 .before .before .before in
-    λ s e. rw (at-enum-told16 .enum-told16 .given .1) (rw (holds s e .x) at (makes-to 2 (at-next2 .next2 .ensures) (c .before .before .to9 .ensures) s e))
+    let at-one-more2 = c .before .before .before in
+    let at-enum-told16 = at-one-more2 .before .before .before in
+    λ s e. rw (at-enum-told16 .enum-told16 .given .1) (rw (holds s e .x) at (makes-to 2 (at-one-more2 .one-more2 .ensures) (c .before .before .to9 .ensures) s e))
 
 pub inside-spec : {M : Type 1} → statement M
 inside-spec =

@@ -1,5 +1,5 @@
 use mathlib.Core.Path.{_∙_}
-use Rattle.reads.specs.Words.{wordAt}
+use Rattle.rules.specs.Addressing.{wordAt}
 use Rattle.rules.specs.Operations.{stack, rti, withPc, withP, withS}
 use Rattle.laws.proofs.Goes.{does, ended, then-call}
 use Rattle.rules.specs.Cycles.{done, _>>=_}
