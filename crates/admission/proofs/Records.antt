@@ -13,7 +13,7 @@ use Rattle.admission_rules.specs.declared.Mark.{Mark}
 use Rattle.admission_rules.specs.declared.Rules.{Rules}
 use Rattle.admission_rules.specs.declared.Rules.the-variants.{Broken}
 use Rattle.admission_rules.specs.Admission.{markAt, rulesOf, rulesAt}
-use Rattle.admission.specs.Sizes.{sizeIn}
+use Rattle.laws.specs.Sizes.{sizeIn}
 use Rattle.admission.proofs.Sizes.{size-is}
 
 module _ (m : List ℕ) (c : ℕ) (map : List ℕ) (i : ℕ) (k : Mark) (here : k ≡ markAt map i) where
@@ -34,7 +34,7 @@ module _ (m : List ℕ) (c : ℕ) (map : List ℕ) (i : ℕ) (k : Mark) (here : 
   module _
       (kept : 256 - c ≤ k .address / 256) (low high n : ℕ) (x : Instruction) (bytes : (j : ℕ) → at m j < 256)
       (first : low ≡ at m (sum16 (k .address) 1)) (second : high ≡ at m (sum16 (k .address) 2))
-      (decoded : x ≡ instructionOf (decode (at m (k .address))) low high) (sized : n ≡ sizeIn x)
+      (decoded : x ≡ instructionOf (decode (at m (k .address))) low high) (sized : n ≡ sizeIn 3 x)
     where
       is : x ≡ instructionOf (decode (at m p)) low high
       is = rw here at decoded

@@ -5,11 +5,11 @@ use mathlib.Core.List.{map}
 use Rattle.rules.specs.Opcodes.{Entry, decode, sizeOf, instructionOf}
 use Rattle.rules.specs.Table.{table}
 use Rattle.decode.proofs.Decodes.{everywhere}
-use Rattle.admission.specs.Sizes.{sizeIn}
+use Rattle.laws.specs.Sizes.{sizeIn}
 
 module _ (low high : ℕ) where
   abbrev made : Entry → ℕ
-  made e = sizeIn (instructionOf e low high)
+  made e = sizeIn 3 (instructionOf e low high)
 
   sizes : map made table ≡ map sizeOf table
   unfolding table

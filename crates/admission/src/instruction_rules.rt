@@ -16,7 +16,7 @@ ghost use Rattle.rules.specs.declared.Refusal.the-variants.{StoreAddress, Stack
 ghost use Rattle.rules.specs.Basics.{if_then_else_, address};
 ghost use Rattle.admission_rules.specs.declared.Rules.the-variants.{Broken, Leads};
 ghost use Rattle.admission_rules.specs.Admission.{one, outside, storeRules, goesTo, goesOn, goesUp, goesDown, calls, isAtZero, rulesOf};
-ghost use Rattle.admission.specs.Sizes.{modeSize, sizeIn};
+ghost use Rattle.laws.specs.Sizes.{modeSize, sizeIn};
 
 fn mode_size(mode: Mode) -> u16
     ensures { λ r. ⌜ r ≡ modeSize mode ⌝ }
@@ -37,7 +37,7 @@ fn mode_size(mode: Mode) -> u16
 
 // How many bytes an instruction is long.
 pub(crate) fn size_of(instruction: Instruction) -> u16
-    ensures { λ r. ⌜ r ≡ sizeIn instruction ⌝ }
+    ensures { λ r. ⌜ r ≡ sizeIn 3 instruction ⌝ }
 {
     match instruction {
         Instruction::Read(o, mode) => mode_size(mode),

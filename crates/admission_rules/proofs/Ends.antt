@@ -9,7 +9,7 @@ use lib.ListN.{length, set}
 use Rattle.rules.specs.declared.Bus.{Bus}
 use Rattle.rules.specs.Basics.{if_then_else_, at, address}
 use Rattle.rules.specs.Cycles.{Bank, Cycles, done, read, write, Access, Ran, run}
-use Rattle.rules.specs.Bus.{isProtected, byte, cellOf, imageAt, images, World, world, look, stored, board, listOf}
+use Rattle.rules.specs.Bus.{isProtected, ofImage, cellOf, imageAt, images, World, world, look, stored, board, listOf}
 use Rattle.admission_rules.specs.Safety.{stackWrites}
 
 -- the addresses in the stack page that a list's accesses write
@@ -43,7 +43,7 @@ ends c (write b p v t) m =
     record { value = e .value; image = e .image; writes = if eqb (p / 256) 1 then p ∷ e .writes else e .writes }
 
 module _ (b : Bus) (is : b .part ≡ 2) where
-  cell-6502 : (k : Bank) (p : ℕ) → cellOf b k p ≡ byte p
+  cell-6502 : (k : Bank) (p : ℕ) → cellOf b k p ≡ ofImage p
   unfolding cellOf imageAt
   cell-6502 k p = rw is
 

@@ -21,7 +21,7 @@ use Rattle.rules.specs.Interrupts.{resOf, eventOf, cyclesOf}
 use Rattle.rules.specs.Bus.{resetBus, images, World}
 use Rattle.rules.specs.Record.{stateOf, recordOf, wellFormed}
 use Rattle.rules.specs.Step.{Outcome, busAt, ranOf, stateAfter, finished, opcodeOf, canStep, refused, stepTests, step}
-use Rattle.rules.specs.Run.{Tally, stepAt, moved, played, stopped, goesOn, play, start, runTests, runOf}
+use Rattle.rules.specs.Run.{Tally, stepAt, further, played, stopped, continued, play, start, runTests, runOf}
 use Rattle.admission_rules.specs.Safety.{Stacked, Effect, effectAt, stackedAfter, pushesOf, stackWrites, Call, ProperScript, Proper, stateIn, eventIn, effect, Plays, History, Admissible, Safe, Demand3}
 use Rattle.laws.proofs.Tests.{Hold, tested-all}
 use Rattle.laws.proofs.Records.{read-again}
@@ -160,7 +160,7 @@ module _ (m₀ : List ℕ) (c : ℕ) (map : List ℕ) (ad : Admitted m₀ c map)
 
       -- where the call stands after it
       abbrev next : Outcome Tally (List ℕ)
-      next = moved s o (after-step .accesses)
+      next = further s o (after-step .accesses)
 
       -- it is fine, and so is the rest of the script if it is so from there
       step-plays : (Then : Outcome Tally (List ℕ) → Stacked → Type 0) (script : List ℕ) → Room (lines ∷ pins ∷ script) s →
@@ -186,7 +186,7 @@ module _ (m₀ : List ℕ) (c : ℕ) (map : List ℕ) (ad : Admitted m₀ c map)
             },
             on next (stackedAfter (effect lines pins s) k)
                 (record { size = d .record-size; formed = d .record-formed; part = d .part ∙ six .part; pages = d .pages ∙ six .pages })
-                (a .ready) later (ap (λ (x : StepAnswer). goesOn (play images script) s o x) (a .answered)),
+                (a .ready) later (ap (λ (x : StepAnswer). continued (play images script) s o x) (a .answered)),
           )
 
   -- a script that is about to be played from s: its first step goes well, or it has none

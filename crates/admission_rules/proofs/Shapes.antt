@@ -14,7 +14,7 @@ use Rattle.rules.specs.declared.Instruction.the-variants.{Read, Store, Change, 
 use Rattle.rules.specs.Basics.{if_then_else_, at, address, sum16}
 use Rattle.rules.specs.Cycles.{_>>=_}
 use Rattle.rules.specs.Opcodes.{Entry, undefined, alone, byte, word, late, Row, rows, among, decode, isDefined, instructionOf}
-use Rattle.rules.specs.Operations.{withPc, perform, operate, instruction, next}
+use Rattle.rules.specs.Operations.{withPc, perform, operate, instruction, onward}
 use Rattle.laws.proofs.Tests.{if-case}
 use Rattle.laws.proofs.Entries.{fetchedBy}
 use Rattle.admission_rules.proofs.Ends.{ends}
@@ -114,7 +114,7 @@ pub on-one : (p k : ℕ) → sum16 (sum16 p k) 1 ≡ sum16 p (suc k)
 on-one p k = omega arith
 
 operate-ends : (c : ℕ) (u : Cpu) (m : List ℕ) (e : Entry) → isDefined e ≡ true →
-    ends c (operate e (next u)) m ≡
+    ends c (operate e (onward u)) m ≡
     ends c (perform (instructionOf e (at m (sum16 (u .pc) 1)) (at m (sum16 (u .pc) 2))) (withPc (sum16 (u .pc) (fetchedBy e)) u)) m
 unfolding operate ends _>>=_
 operate-ends c u m undefined h = absurd (false≢true h)
@@ -128,4 +128,4 @@ pub instruction-ends : (c : ℕ) (u : Cpu) (m : List ℕ) (e : Entry) → decode
     ends c (instruction u) m ≡
     ends c (perform (instructionOf e (at m (sum16 (u .pc) 1)) (at m (sum16 (u .pc) 2))) (withPc (sum16 (u .pc) (fetchedBy e)) u)) m
 unfolding instruction ends _>>=_
-instruction-ends c u m e d h = ap (λ (x : Entry). ends c (operate x (next u)) m) d ∙ operate-ends c u m e h
+instruction-ends c u m e d h = ap (λ (x : Entry). ends c (operate x (onward u)) m) d ∙ operate-ends c u m e h

@@ -29,7 +29,7 @@ use Rattle.rules.specs.Interrupts.{resOf, nmiOf}
 use Rattle.rules.specs.Bus.{images, isProtected}
 use Rattle.rules.specs.Record.{wellFormed}
 use Rattle.rules.specs.Step.{Outcome, stateNow, eventNow, opcodeOf}
-use Rattle.rules.specs.Run.{Tally, stepAt, moved, played, start, runOf}
+use Rattle.rules.specs.Run.{Tally, stepAt, further, played, start, runOf}
 use Rattle.admission_rules.specs.Admission.{markAt, marksIn, admit}
 
 -- "The bytes on the stack, for demand 3, are a whole number that never wraps": as how many were pushed and how many pulled since it was 0.
@@ -154,7 +154,7 @@ Plays map Then [] s k = Then s k
 Plays map Then (lines ∷ []) s k = Then s k
 Plays map Then (lines ∷ pins ∷ script) s k =
     (fine : Fine lines pins s map k) ×
-    Plays map Then script (moved s (stepAt images lines pins s) (fine .accesses)) (stackedAfter (effect lines pins s) k)
+    Plays map Then script (further s (stepAt images lines pins s) (fine .accesses)) (stackedAfter (effect lines pins s) k)
 
 -- Calls one after the other, each with the record that the last one left and the image that it left, but for what others altered. A run
 -- plays to its end: it leaves what its last step leaves, and answers how many steps it did and how many accesses they listed.

@@ -1,7 +1,7 @@
 // Shifts and steps by one.
 
 ghost use mathlib.Core.Path.{_≡_};
-ghost use Rattle.rules.specs.Arithmetic.{shifted, stepped, changed};
+ghost use Rattle.rules.specs.Arithmetic.{shifted, byOne, changed};
 use rules::Changing;
 use rules::Flags;
 use rules::Result;
@@ -17,8 +17,8 @@ fn shifted(v: u8, out: bool, f: Flags) -> Result
 }
 
 // "steps by one set N, Z"
-fn stepped(v: u8, f: Flags) -> Result
-    ensures { λ r. ⌜ r ≡ stepped v f ⌝ }
+fn by_one(v: u8, f: Flags) -> Result
+    ensures { λ r. ⌜ r ≡ byOne v f ⌝ }
 {
     Result {
         value: v,
@@ -35,7 +35,7 @@ pub fn changed(o: Changing, v: u8, f: Flags) -> Result
         Changing::Rol => shifted(v % 128 * 2 + flags::bit(f.c), flags::has(v, 128), f),
         Changing::Lsr => shifted(v / 2, flags::has(v, 1), f),
         Changing::Ror => shifted(v / 2 + flags::bit(f.c) * 128, flags::has(v, 1), f),
-        Changing::Dec => stepped(std::num::wrapping_sub_u8(v, 1), f),
-        Changing::Inc => stepped(std::num::wrapping_add_u8(v, 1), f),
+        Changing::Dec => by_one(std::num::wrapping_sub_u8(v, 1), f),
+        Changing::Inc => by_one(std::num::wrapping_add_u8(v, 1), f),
     }
 }

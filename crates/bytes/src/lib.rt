@@ -11,7 +11,7 @@ pub fn join(low: u8, high: u8) -> u16
     high as u16 * 256 + low as u16
 }
 
-// Where a branch goes: the next instruction's address, and a signed offset.
+// Where a branch goes: the next instruction's address, and a signed offset. 65408 is 128 less; to subtract takes an instruction more.
 pub fn target(next: u16, o: u8) -> u16
     ensures { λ r. ⌜ r ≡ target next o ⌝ }
 {

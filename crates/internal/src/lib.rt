@@ -48,13 +48,13 @@ fn with_d(b: bool, f: Flags) -> Flags
     }
 }
 
-fn next(v: u8) -> u8
+fn one_more(v: u8) -> u8
     ensures { λ r. ⌜ r ≡ (v + 1) % 256 ⌝ }
 {
     std::num::wrapping_add_u8(v, 1)
 }
 
-fn previous(v: u8) -> u8
+fn one_less(v: u8) -> u8
     ensures { λ r. ⌜ r ≡ (v + 255) % 256 ⌝ }
 {
     std::num::wrapping_sub_u8(v, 1)
@@ -108,12 +108,12 @@ pub fn inside(o: Internal, state: &mut [u8])
         }
         Internal::Dex => {
             let x = state[state::X];
-            state::to(state, state::X, previous(x))
+            state::to(state, state::X, one_less(x))
         }
         Internal::Nop => {}
         Internal::Dey => {
             let y = state[state::Y];
-            state::to(state, state::Y, previous(y))
+            state::to(state, state::Y, one_less(y))
         }
         Internal::Tay => {
             let a = state[state::A];
@@ -121,11 +121,11 @@ pub fn inside(o: Internal, state: &mut [u8])
         }
         Internal::Iny => {
             let y = state[state::Y];
-            state::to(state, state::Y, next(y))
+            state::to(state, state::Y, one_more(y))
         }
         Internal::Inx => {
             let x = state[state::X];
-            state::to(state, state::X, next(x))
+            state::to(state, state::X, one_more(x))
         }
     }
 }

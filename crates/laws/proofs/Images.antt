@@ -18,7 +18,7 @@ use Rattle.rules.specs.Opcodes.{decode, isDefined}
 use Rattle.rules.specs.declared.Event.{Event}
 use Rattle.rules.specs.declared.Event.the-variants.{Res, Nmi, Irq, Execute}
 use Rattle.rules.specs.Interrupts.{cyclesOf}
-use Rattle.rules.specs.Bus.{is6508, selected, port, narrow, withRegisters, isProtected, Cell, first, second, byte, cellOf, images, Chart, poked, charts, World, world, held, kept, look, stored, board}
+use Rattle.rules.specs.Bus.{is6508, selected, port, narrow, withRegisters, isProtected, Cell, first, second, ofImage, cellOf, images, Chart, poked, charts, World, world, held, kept, look, stored, board}
 use Rattle.rules.specs.Step.{Outcome, busAt, ranOf, finished, opcodeOf, canStep, stateNow, eventNow, refused, stepTests, step}
 use Rattle.laws.proofs.Tests.{if-both, tested-both}
 use Rattle.laws.proofs.Cycles.{Alike, Ended, run-alike}
@@ -43,7 +43,7 @@ pub record Shown (v : World (List ℕ)) (w : World Chart) : Type 0 where
 held-shown : (v : World (List ℕ)) (w : World Chart) → Shown v w → (c : Cell) → held images v c ≡ held charts w c
 held-shown v w s first = ap (λ (b : Bus). b .first) (s .bus)
 held-shown v w s second = ap (λ (b : Bus). if is6508 (b .part) then port b else b .second) (s .bus)
-held-shown v w s (byte n) = s .image .bytes n
+held-shown v w s (ofImage n) = s .image .bytes n
 
 look-shown : (v : World (List ℕ)) (w : World Chart) → Shown v w → (k : Bank) (p : ℕ) → look images v k p ≡ look charts w k p
 unfolding look
@@ -52,7 +52,7 @@ look-shown v w s k p = ap (λ (b : Bus). held images v (cellOf b k p)) (s .bus) 
 kept-shown : (v : World (List ℕ)) (w : World Chart) → Shown v w → (c : Cell) (x : ℕ) → Shown (kept images v c x) (kept charts w c x)
 kept-shown v w s first x = record { bus = ap (λ (b : Bus). withRegisters (narrow (b .part) x) (b .second) b) (s .bus); image = s .image }
 kept-shown v w s second x = record { bus = ap (λ (b : Bus). withRegisters (b .first) (narrow (b .part) x) b) (s .bus); image = s .image }
-kept-shown v w s (byte n) x = record { bus = s .bus; image = holds-poke (v .image) (w .image) (s .image) n x }
+kept-shown v w s (ofImage n) x = record { bus = s .bus; image = holds-poke (v .image) (w .image) (s .image) n x }
 
 stored-shown : (v : World (List ℕ)) (w : World Chart) → Shown v w → (k : Bank) (p x : ℕ) → Shown (stored images v k p x) (stored charts w k p x)
 unfolding stored

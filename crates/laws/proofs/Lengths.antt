@@ -18,7 +18,7 @@ use Rattle.rules.specs.Basics.{if_then_else_, address}
 use Rattle.rules.specs.Cycles.{Bank, execution, indirect, _>>=_, Device, run}
 use Rattle.rules.specs.Opcodes.{Entry, undefined, alone, byte, word, late, Row, rows, among, decode, isDefined}
 use Rattle.rules.specs.Addressing.{load, place, pointer, zeroIndexed, indexed, crosses, loadIndexed}
-use Rattle.rules.specs.Operations.{branchTo, enter, push, pull, jsr, rts, rti, brk, jumpIndirect, perform, operate, instruction, taken, target, next}
+use Rattle.rules.specs.Operations.{branchTo, enter, push, pull, jsr, rts, rti, brk, jumpIndirect, perform, operate, instruction, taken, target, onward}
 use Rattle.rules.specs.declared.Event.{Event}
 use Rattle.rules.specs.declared.Event.the-variants.{Res, Nmi, Irq, Execute}
 use Rattle.rules.specs.Interrupts.{interrupt, reset, cyclesOf}
@@ -145,12 +145,12 @@ unfolding operate _>>=_
 operate-most n undefined c h = tt
 operate-most n (alone i) c h = λ v. most-le (instructionMost i) (suc n) (omega (arith, h 0 0)) (perform i c) (perform-most i c)
 operate-most n (byte f) c h = λ v.
-    let i = f v in most-le (instructionMost i) (suc n) (omega (arith, h v 0)) (perform i (next c)) (perform-most i (next c))
+    let i = f v in most-le (instructionMost i) (suc n) (omega (arith, h v 0)) (perform i (onward c)) (perform-most i (onward c))
 operate-most n (word f) c h = λ low high.
     let i = f low high in
-    most-le (instructionMost i) n (omega (arith, h low high)) (perform i (next (next c))) (perform-most i (next (next c)))
+    most-le (instructionMost i) n (omega (arith, h low high)) (perform i (onward (onward c))) (perform-most i (onward (onward c)))
 operate-most n (late f) c h = λ v.
-    let i = f v in most-le (instructionMost i) (suc n) (omega (arith, h v 0)) (perform i (next c)) (perform-most i (next c))
+    let i = f v in most-le (instructionMost i) (suc n) (omega (arith, h v 0)) (perform i (onward c)) (perform-most i (onward c))
 
 -- the test of all rows, whatever the operand
 abbrev short : List Row → ℕ → ℕ → Bool
@@ -178,7 +178,7 @@ unfolding cyclesOf instruction reset interrupt enter _>>=_
 at-most-seven Res c = λ a b d e f low high. tt
 at-most-seven Nmi c = λ a b low high. tt
 at-most-seven Irq c = λ a b low high. tt
-at-most-seven Execute c = λ op. operate-most 4 (decode op) (next c) (decode-short op)
+at-most-seven Execute c = λ op. operate-most 4 (decode op) (onward c) (decode-short op)
 
 operate-one : {W : Type 0} (d : Device W) (e : Entry) (c : Cpu) (w : W) → isDefined e ≡ true → 1 ≤ length (run d (operate e c) w .list)
 unfolding operate run _>>=_
@@ -195,4 +195,4 @@ two-least memory Res u m h = omega arith
 two-least memory Nmi u m h = omega arith
 two-least memory Irq u m h = omega arith
 two-least memory Execute u m h =
-    omega (arith, operate-one (board memory) (decode (opcodeOf memory u m)) (next (u .cpu)) (world (u .bus) m) h)
+    omega (arith, operate-one (board memory) (decode (opcodeOf memory u m)) (onward (u .cpu)) (world (u .bus) m) h)

@@ -18,7 +18,7 @@ use Rattle.rules.specs.Flags.{byteOf, flagsOf}
 use Rattle.rules.specs.declared.Event.{Event}
 use Rattle.rules.specs.declared.Event.the-variants.{Res, Nmi, Irq, Execute}
 use Rattle.rules.specs.Interrupts.{nmiOf, cyclesOf}
-use Rattle.rules.specs.Bus.{is6502, is6508, is6509, Memory, World, world, narrow, first, second, byte, cellOf, imageAt, selected, kept, stored, isProtected, resetBus, board}
+use Rattle.rules.specs.Bus.{is6502, is6508, is6509, Memory, World, world, narrow, first, second, ofImage, cellOf, imageAt, selected, kept, stored, isProtected, resetBus, board}
 use Rattle.rules.specs.Record.{long, stateOf, recordOf, wellFormed, partFits, flagsFit, registerFits, levelFits, pagesFit}
 use Rattle.rules.specs.Step.{linesFit, busAt, ranOf}
 use Rattle.laws.proofs.Tests.{and-left, and-right, six, all-at, if-case}
@@ -172,7 +172,7 @@ module _ {M : Type 0} (memory : Memory M) (k c : ℕ) where
 
       go : (h : Bool) → (is6508 (w .bus .part) || is6509 (w .bus .part)) ≡ h → (a b : Bool) →
           Fit k c
-          (kept memory w (if h then if a then first else if b then second else byte (imageAt (w .bus) n p) else byte (imageAt (w .bus) n p)) v .bus)
+          (kept memory w (if h then if a then first else if b then second else ofImage (imageAt (w .bus) n p) else ofImage (imageAt (w .bus) n p)) v .bus)
       go true e true b = record { part = f .part; protected = f .protected; first = fits e; second = f .second }
       go true e false true = record { part = f .part; protected = f .protected; first = f .first; second = fits e }
       go true e false false = f

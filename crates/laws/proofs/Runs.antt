@@ -12,7 +12,7 @@ use Rattle.rules.specs.declared.RunAnswer.{RunAnswer}
 use Rattle.rules.specs.Bus.{Memory, listOf}
 use Rattle.rules.specs.Record.{wellFormed}
 use Rattle.rules.specs.Step.{Outcome}
-use Rattle.rules.specs.Run.{Tally, stepAt, moved, goesOn, play}
+use Rattle.rules.specs.Run.{Tally, stepAt, further, continued, play}
 use Rattle.laws.proofs.Steps.{trace, lawful, Done}
 
 module _ {M : Type 0} (memory : Memory M) where
@@ -43,24 +43,24 @@ module _ {M : Type 0} (memory : Memory M) where
     done : Done memory (s .state) (s .image) lines pins (drop i (s .accesses)) o n
     done = lawful memory (s .state) (s .image) lines pins (drop i (s .accesses)) .moves n e
 
-    moved-size : length (take i (s .accesses) ++ o .accesses) ≡ length (s .accesses)
-    moved-size =
+    further-size : length (take i (s .accesses) ++ o .accesses) ≡ length (s .accesses)
+    further-size =
         omega (arith, length-append (take i (s .accesses)) (o .accesses), length-take-le i (s .accesses) (q .within), done .size, length-drop i (s .accesses), q .within)
 
-    moved-sound : Sound (moved s o n)
-    moved-sound =
+    further-sound : Sound (further s o n)
+    further-sound =
         record {
-          within = omega (arith, moved-size, done .least, done .room, length-drop i (s .accesses), q .within);
+          within = omega (arith, further-size, done .least, done .room, length-drop i (s .accesses), q .within);
           record-size = done .record-size;
           record-formed = done .record-formed;
         }
 
-    moved-kept : (r : Outcome RunAnswer M) → Kept (moved s o n) r → Kept s r
-    moved-kept r k =
-        let j = 8 * moved s o n .answer .listed in
+    further-kept : (r : Outcome RunAnswer M) → Kept (further s o n) r → Kept s r
+    further-kept r k =
+        let j = 8 * further s o n .answer .listed in
         let h : i ≤ j = omega arith in
         record {
-          size = k .size ∙ moved-size;
+          size = k .size ∙ further-size;
           listed =
               sym (take-take i j (r .accesses) h) ∙ ap (take i) (k .listed) ∙ take-take i j (take i (s .accesses) ++ o .accesses) h
               ∙ take-at (take i (s .accesses)) (o .accesses) i (length-take-le i (s .accesses) (q .within));
@@ -75,8 +75,8 @@ module _ {M : Type 0} (memory : Memory M) where
   play-kept (lines ∷ pins ∷ script) s q = go (stepAt memory lines pins s .answer) refl (λ t. play-kept script t)
     where
       go : (a : StepAnswer) → stepAt memory lines pins s .answer ≡ a → ((t : Outcome Tally M) → Sound t → Kept t (play memory script t)) →
-          Kept s (goesOn (play memory script) s (stepAt memory lines pins s) a)
-      go (Stepped n) e rest = moved-kept lines pins s n q e (play memory script (moved s (stepAt memory lines pins s) n)) (rest _ (moved-sound lines pins s n q e))
+          Kept s (continued (play memory script) s (stepAt memory lines pins s) a)
+      go (Stepped n) e rest = further-kept lines pins s n q e (play memory script (further s (stepAt memory lines pins s) n)) (rest _ (further-sound lines pins s n q e))
       go (Refused d) e rest = ended-kept s _ q
 
   -- what a step listed stands there when all later steps are done
@@ -89,9 +89,9 @@ module _ {M : Type 0} (memory : Memory M) where
     unfolding play
     step-kept =
         let o = stepAt memory lines pins s in
-        let k = play-kept script (moved s o n) (moved-sound lines pins s n q e) in
+        let k = play-kept script (further s o n) (further-sound lines pins s n q e) in
         let d = length-take-le (8 * s .answer .listed) (s .accesses) (q .within) in
         let size : 8 * (s .answer .listed + n) ≡ length before + 8 * n = omega arith in
-        ap (λ (a : StepAnswer). take (8 * (s .answer .listed + n)) (goesOn (play memory script) s o a .accesses)) e ∙ k .listed
+        ap (λ (a : StepAnswer). take (8 * (s .answer .listed + n)) (continued (play memory script) s o a .accesses)) e ∙ k .listed
         ∙ ap (λ (j : ℕ). take j (before ++ o .accesses)) size ∙ take-append-add before (o .accesses) (8 * n)
         ∙ ap (λ (l : List ℕ). before ++ l) (done lines pins s n q e .listed)

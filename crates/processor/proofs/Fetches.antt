@@ -17,7 +17,7 @@ use Rattle.rules.specs.Bus.{World, world, images, look, board}
 use Rattle.rules.specs.Addressing.{get}
 use Rattle.rules.specs.Opcodes.{Entry, undefined, alone, byte, word, late, decode, isDefined, instructionOf}
 use Rattle.rules.specs.Table.{table}
-use Rattle.rules.specs.Operations.{perform, next, operate, instruction}
+use Rattle.rules.specs.Operations.{perform, onward, operate, instruction}
 use Rattle.rules.specs.Record.{recordOf}
 use Rattle.laws.proofs.Entries.{fetchedBy}
 use Rattle.decode.proofs.Decodes.{everywhere}
@@ -27,16 +27,16 @@ use Rattle.laws.proofs.Goes.{ended, then-do, then-call}
 use Rattle.wiring.specs.declared.Wiring.{Wiring}
 use Rattle.wiring.specs.Wiring.{Stands}
 use Rattle.processor.specs.Begun.{short}
-use Rattle.processor.specs.Start.{fetchedOf}
-use Rattle.processor.specs.Rest.{bytesOf, highOf, past, pastIn, behind, begunBy, rest, Fetched, Opens, Reaches}
+use Rattle.laws.specs.Sizes.{modeSize, sizeIn}
+use Rattle.processor.specs.Rest.{highOf, past, pastIn, behind, begunBy, rest, Fetched, Opens, Reaches}
 
 -- each is one computed claim on the table of 256
-sizes : (low high : ℕ) → map (λ (e : Entry). bytesOf (instructionOf e low high)) table ≡ map fetchedBy table
+sizes : (low high : ℕ) → map (λ (e : Entry). sizeIn 2 (instructionOf e low high)) table ≡ map fetchedBy table
 unfolding table
 sizes low high = refl
 
-pub size-is : (n low high : ℕ) → n < 256 → bytesOf (instructionOf (decode n) low high) ≡ fetchedBy (decode n)
-size-is n low high h = everywhere (λ (e : Entry). bytesOf (instructionOf e low high)) fetchedBy (sizes low high) n h
+pub size-is : (n low high : ℕ) → n < 256 → sizeIn 2 (instructionOf (decode n) low high) ≡ fetchedBy (decode n)
+size-is n low high h = everywhere (λ (e : Entry). sizeIn 2 (instructionOf e low high)) fetchedBy (sizes low high) n h
 
 tops : (low high : ℕ) → map (λ (e : Entry). highOf (instructionOf e low high) high) table ≡ map (λ (e : Entry). high) table
 unfolding table
@@ -75,8 +75,8 @@ module _ (u : Bus) (i : List ℕ) where
   found p = look images (world u i) execution p
 
   entered : (e : Entry) (c : Cpu) (low high : ℕ) → isDefined e ≡ true → low ≡ found (sum16 (c .pc) 1) → high ≡ found (sum16 (c .pc) 2) →
-      bytesOf (instructionOf e low high) ≡ fetchedBy e →
-      runs (operate e (next c)) ≡ runs (get (sum16 (c .pc) 1) >> rest (instructionOf e low high) c)
+      sizeIn 2 (instructionOf e low high) ≡ fetchedBy e →
+      runs (operate e (onward c)) ≡ runs (get (sum16 (c .pc) 1) >> rest (instructionOf e low high) c)
   unfolding operate run rest _>>=_
   entered undefined c low high h p q z = absurd (false≢true h)
   entered (alone j) c low high h p q z = rw z
@@ -114,9 +114,9 @@ opened n pc t {m} {u} {u′} {i} {l} {i′} {l₁} {l′} {a} = go (eqb n 3)
     go true d e = then-do t d e
     go false d e = then-do t d e
 
-pub reaches : {f : Cpu → Mode → Cycles ℕ} {m : Mode} {s : State} {i l r′ l₁ l′ : List ℕ} {v n : ℕ} → Opens (fetchedOf m) s i l r′ l₁ →
-    Goes (f (past (fetchedOf m) (s .cpu)) m) (begunBy (fetchedOf m)) (s .bus) i l₁ v n (s .bus) i l′ → Reaches f m s i l v n r′ l′
-reaches {m = m} {s = s} o g = record { bytes = o .bytes; goes = opened (fetchedOf m) (s .cpu .pc) _ (o .goes) g }
+pub reaches : {f : Cpu → Mode → Cycles ℕ} {m : Mode} {s : State} {i l r′ l₁ l′ : List ℕ} {v n : ℕ} → Opens (modeSize m) s i l r′ l₁ →
+    Goes (f (past (modeSize m) (s .cpu)) m) (begunBy (modeSize m)) (s .bus) i l₁ v n (s .bus) i l′ → Reaches f m s i l v n r′ l′
+reaches {m = m} {s = s} o g = record { bytes = o .bytes; goes = opened (modeSize m) (s .cpu .pc) _ (o .goes) g }
 
 -- an instruction behind its fetched bytes
 pub opened-does : (n : ℕ) {t : Cycles Cpu} {s : State} {m : ℕ} {i l r₁ l₁ r′ i′ l′ : List ℕ} → Opens n s i l r₁ l₁ →
@@ -144,8 +144,8 @@ behind-call n pc t f = go (eqb n 3)
     go false = refl
 
 pub reached : {f : Cpu → Mode → Cycles ℕ} (m : Mode) {s : State} {i l r₁ l₁ r′ i′ l′ : List ℕ} {v k n : ℕ} (g : ℕ → Cycles Cpu) →
-    Reaches f m s i l v k r₁ l₁ → Does (g v) k (pastIn (fetchedOf m) s) i l₁ n r′ i′ l′ →
-    Does (behind (fetchedOf m) (s .cpu .pc) (f (past (fetchedOf m) (s .cpu)) m >>= g)) 2 s i l n r′ i′ l′
+    Reaches f m s i l v k r₁ l₁ → Does (g v) k (pastIn (modeSize m) s) i l₁ n r′ i′ l′ →
+    Does (behind (modeSize m) (s .cpu .pc) (f (past (modeSize m) (s .cpu)) m >>= g)) 2 s i l n r′ i′ l′
 reached {f} m {s} g o d =
-    rw (behind-call (fetchedOf m) (s .cpu .pc) (f (past (fetchedOf m) (s .cpu)) m) g)
+    rw (behind-call (modeSize m) (s .cpu .pc) (f (past (modeSize m) (s .cpu)) m) g)
     (record { cpu = d .cpu; bus = d .bus; bytes = d .bytes; goes = then-call g (o .goes) (d .goes) })

@@ -16,7 +16,7 @@ use Rattle.wiring.specs.declared.Wiring.{Wiring}
 use Rattle.processor.specs.Begun.{short}
 use Rattle.processor.specs.Laid.{Lays, stores, changes}
 use Rattle.processor.specs.Rest.{highIn, highOf, Fetched}
-use Rattle.processor.specs.Start.{fetchedOf}
+use Rattle.laws.specs.Sizes.{modeSize}
 
 pub as-store : {i : Instruction} {m n : Mode} {o : Storing} → i ≡ Store o n → m ≡ n → Lays i m
 as-store {o = o} e z = stores o (e ∙ ap (Store o) (sym z))
@@ -33,8 +33,8 @@ is-change (stores p e) d = let z : _≡_ {A = ℕ} 0 1 = cc in absurd (omega ari
 is-change (changes p e) d = cc
 
 -- three accesses are left where a change has found its place
-pub three-left : {i : Instruction} {m : Mode} {o : Changing} → i ≡ Change o m → short i ≡ true → fetchedOf m + placeMost m ≤ 4
-three-left {m = m} e h = leb-true (fetchedOf m + placeMost m) 4 (rw e at h)
+pub three-left : {i : Instruction} {m : Mode} {o : Changing} → i ≡ Change o m → short i ≡ true → modeSize m + placeMost m ≤ 4
+three-left {m = m} e h = leb-true (modeSize m + placeMost m) 4 (rw e at h)
 
 -- no other instruction does so: what is said of all others is wrong of it
 pub lays-only : {i : Instruction} {m : Mode} (P : Instruction → Type 0) → ((o : Storing) → P (Store o m) → ⊥) →

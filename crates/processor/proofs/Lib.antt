@@ -4,3 +4,4 @@ pub mod Fetches
 pub mod Lays
 pub mod Executes
 pub mod Conditions
+pub mod Banks

@@ -4,14 +4,14 @@ use mathlib.Core.Bool.{Bool, true, false}
 use lib.Dec.{leb}
 use Rattle.rules.specs.declared.Instruction.{Instruction}
 use Rattle.rules.specs.declared.Instruction.the-variants.{Read, Store, Change, Accumulator, Implied, AtStack, Branch, Jump, JumpIndirect, Jsr, Brk, Txs, Cli, Undefined}
-use Rattle.processor.specs.Start.{fetchedOf}
+use Rattle.laws.specs.Sizes.{modeSize}
 use Rattle.laws.proofs.Lengths.{placeMost}
 
 -- "read data, write it back, write the result" take three of the seven
 abbrev pub short : Instruction → Bool
 short (Read o m) = true
 short (Store o m) = true
-short (Change o m) = leb (fetchedOf m + placeMost m) 4
+short (Change o m) = leb (modeSize m + placeMost m) 4
 short (Accumulator o) = true
 short (Implied o) = true
 short (AtStack o) = true

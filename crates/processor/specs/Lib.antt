@@ -1,6 +1,5 @@
 pub mod Begun
 pub mod Laid
-pub mod Start
 pub mod Rest
 pub mod Found
 pub mod Executed

@@ -20,24 +20,7 @@ use Rattle.laws.specs.Goes.{Goes}
 use Rattle.laws.specs.States.{moved}
 use Rattle.wiring.specs.declared.Wiring.{Wiring}
 use Rattle.wiring.specs.Wiring.{Stands}
-use Rattle.processor.specs.Start.{fetchedOf}
-
--- the bytes that are fetched before an instruction's own accesses
-abbrev pub bytesOf : Instruction → ℕ
-bytesOf (Read o m) = fetchedOf m
-bytesOf (Store o m) = fetchedOf m
-bytesOf (Change o m) = fetchedOf m
-bytesOf (Accumulator o) = 1
-bytesOf (Implied o) = 1
-bytesOf (AtStack o) = 1
-bytesOf (Branch t o) = 2
-bytesOf (Jump low high) = 3
-bytesOf (JumpIndirect low high) = 3
-bytesOf (Jsr low) = 2
-bytesOf Brk = 1
-bytesOf Txs = 1
-bytesOf Cli = 1
-bytesOf Undefined = 1
+use Rattle.laws.specs.Sizes.{modeSize, sizeIn}
 
 -- the high byte of a mode's address, or v where it has none
 abbrev pub highIn : Mode → ℕ → ℕ
@@ -84,7 +67,7 @@ abbrev pub begunBy : ℕ → ℕ
 begunBy n = if eqb n 3 then 3 else 2
 
 unfoldable pub rest : Instruction → Cpu → Cycles Cpu
-rest i c = behind (bytesOf i) (c .pc) (perform i (past (bytesOf i) c))
+rest i c = behind (sizeIn 2 i) (c .pc) (perform i (past (sizeIn 2 i) c))
 
 -- the third byte at PC
 abbrev pub thirdAt : State → List ℕ → ℕ
@@ -103,5 +86,5 @@ pub record Opens (n : ℕ) (s : State) (i l r′ l′ : List ℕ) : Type 0 where
 
 -- what `load` and `place` find by a mode
 pub record Reaches (f : Cpu → Mode → Cycles ℕ) (m : Mode) (s : State) (i l : List ℕ) (v n : ℕ) (r′ l′ : List ℕ) : Type 0 where
-  pub bytes : r′ ≡ recordOf (pastIn (fetchedOf m) s)
-  pub goes : Goes (behind (fetchedOf m) (s .cpu .pc) (f (past (fetchedOf m) (s .cpu)) m)) 2 (s .bus) i l v n (s .bus) i l′
+  pub bytes : r′ ≡ recordOf (pastIn (modeSize m) s)
+  pub goes : Goes (behind (modeSize m) (s .cpu .pc) (f (past (modeSize m) (s .cpu)) m)) 2 (s .bus) i l v n (s .bus) i l′

@@ -15,7 +15,7 @@ ghost use Rattle.rules.specs.Record.{recordOf};
 ghost use Prim.Native.Nat.{_/_};
 ghost use mathlib.Core.List.{List};
 ghost use Prim.Native.Nat.{ℕ};
-ghost use Rattle.processor.specs.Start.{fetchedOf};
+ghost use Rattle.laws.specs.Sizes.{modeSize};
 ghost use Rattle.processor.specs.Rest.{highIn, pastIn, Fetched, Opens, Reaches};
 ghost use Rattle.laws.proofs.Lengths.{placeMost};
 
@@ -46,10 +46,8 @@ fn pointer(state: &[u8], w: Wiring, image: &[u8], list: &mut [u8], k: usize, z: 
     requires { ⌜ (k < 6) × Ready w (length (now state)) (length (now image)) (length (now list)) ⌝ }
     ensures { λ r. ⌜ ((s : State) → Stands execution s (now (state .entry)) w → Goes (pointer z) k (s .bus) (now (image .entry)) (now (list .entry)) r (k + 2) (s .bus) (now (image .entry)) (now (list .exit))) ⌝ }
 {
-    let next = std::num::wrapping_add_u8(z, 1) as u16;
-    let low = reads::read(state, w, image, list, k, z as u16);
-    let high = reads::read(state, w, image, list, k + 1, next);
-    bytes::join(low, high)
+    let above = std::num::wrapping_add_u8(z, 1) as u16;
+    reads::word_at(state, w, image, list, k, z as u16, above)
 }
 
 // "read the unindexed zero-page address"
@@ -208,7 +206,7 @@ pub(crate) fn place(
     list: &mut [u8],
 ) -> Spot
     requires { ⌜ Ready w (length (now state)) (length (now image)) (length (now list)) ⌝ }
-    ensures { λ r. ⌜ ((r .count ≤ 5) × (r .count ≤ fetchedOf m + placeMost m)) × ((s : State) → Fetched (highIn m) s (now (state .entry)) (now (image .entry)) w pc → Reaches place m s (now (image .entry)) (now (list .entry)) (r .address) (r .count) (now (state .exit)) (now (list .exit))) ⌝ }
+    ensures { λ r. ⌜ ((r .count ≤ 5) × (r .count ≤ modeSize m + placeMost m)) × ((s : State) → Fetched (highIn m) s (now (state .entry)) (now (image .entry)) w pc → Reaches place m s (now (image .entry)) (now (list .entry)) (r .address) (r .count) (now (state .exit)) (now (list .exit))) ⌝ }
 {
     match m {
         Mode::Immediate(v) => {

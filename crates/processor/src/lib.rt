@@ -50,18 +50,10 @@ fn wiring_of(m: Mode, state: &[u8], w: Wiring) -> Wiring
     requires { ⌜ ((length (now state) ≡ 16) × (w .base + 65536 ≤ w .size)) × (w .size % 65536 ≡ 0) ⌝ }
     ensures { λ r. ⌜ ((r .base + 65536 ≤ w .size) × (r .size ≡ w .size)) × ((s : State) → Stands execution s (now (state .entry)) w → Stands (bankOf m) s (now (state .entry)) r) ⌝ }
 {
-    match m {
-        Mode::Immediate(_) => w,
-        Mode::Zero(_) => w,
-        Mode::ZeroX(_) => w,
-        Mode::ZeroY(_) => w,
-        Mode::Absolute(_, _) => w,
-        Mode::AbsoluteX(_, _) => w,
-        Mode::AbsoluteY(_, _) => w,
-        Mode::IndirectX(_) => w,
-        Mode::IndirectY(_) => w,
-        Mode::IndirectBankY(_) => wiring::indirect(state, w),
+    if let Mode::IndirectBankY(_) = m {
+        return wiring::indirect(state, w);
     }
+    w
 }
 
 fn store(

@@ -12,7 +12,7 @@ ghost use Rattle.rules.specs.Record.{recordOf};
 ghost use Rattle.wiring.specs.Wiring.{Stands, Ready};
 ghost use Rattle.laws.specs.Goes.{Goes};
 ghost use Rattle.reads.specs.Held.{lowHeld};
-ghost use Rattle.reads.specs.Words.{wordAt};
+ghost use Rattle.rules.specs.Addressing.{wordAt};
 
 // The 6508's port: "the output bit where direction is 1, the pin where it is 0".
 fn port(direction: u8, output: u8, pins: u8) -> u8

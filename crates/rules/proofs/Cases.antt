@@ -13,7 +13,7 @@ use Rattle.rules.specs.Step.{Outcome, step}
 use Rattle.rules.specs.Run.{runOf}
 use Rattle.rules.specs.Restart.{restart, appendAt}
 use Rattle.rules.proofs.Opened.{opened}
-use Rattle.rules.proofs.Examples.{same, failing, zeros, _from_holds_, state, registers, stepped, runs, on, left, reads, writes, keeps}
+use Rattle.rules.proofs.Examples.{same, failing, zeros, _from_holds_, state, registers, tried, runs, on, results, reads, writes, keeps}
 
 -- PC after a step
 abbrev pcIs : Outcome StepAnswer Chart → ℕ → ℕ → Bool
@@ -29,7 +29,7 @@ steps =
     (0x02 ∷ 0x42 ∷ 0x00 ∷ 0x00 ∷ 0xFF ∷ 0x24 ∷ 0x02 ∷ 0x80 ∷ 0 ∷ 0 ∷ 0 ∷ 0 ∷ 0x03 ∷ 0 ∷ 0 ∷ 0 ∷ [])
     -- 4 "The top c pages are write-protected": c = 1, STA FF00 is listed and changes nothing, STA FEFF changes the byte
     ∷ (let o = runs (set (state 2 7 0 0xFF 0x20 0x8000) 11 1) (zeros 1 from 0x8000 holds (0x8D ∷ 0x00 ∷ 0xFF ∷ [])) in
-    left o 4 7 0xFF 0x20 && writes o 3 0xFF00 0 7 && keeps o 0xFF00 0)
+    results o 4 7 0xFF 0x20 && writes o 3 0xFF00 0 7 && keeps o 0xFF00 0)
     ∷ keeps (runs (set (state 2 7 0 0xFF 0x20 0x8000) 11 1) (zeros 1 from 0x8000 holds (0x8D ∷ 0xFF ∷ 0xFE ∷ []))) 0xFEFF 7
     -- 6 "judged by the address on the bus": c = 255, a 6508's PHA at 01FF changes nothing, its STA 00FF the same image byte
     ∷ keeps (runs (set (state 8 7 0 0xFF 0x20 0x8000) 11 255) (zeros 1 from 0x8000 holds (0x48 ∷ []))) 0x00FF 0
@@ -39,7 +39,7 @@ steps =
     writes o 2 0x0100 0 7 && keeps o 0 7 && keeps o 0x0100 0 && eqb (at (o .state) 8) 0)
     -- 9 6509: LDA (10),Y reads its pointer in the execution bank and its data in the indirect one, modulo k; CMP (10),Y stays
     ∷ (let o = runs (registers 2 5 (state 9 0 0 0xFF 0x20 0x8000)) (zeros 2 from 0x8000 holds (0xB1 ∷ 0x10 ∷ []) from 0x0011 holds (0x90 ∷ []) from 0x19000 holds (0x77 ∷ [])) in
-    left o 5 0x77 0xFF 0x20 && reads o 3 0x0011 2 0x90 && reads o 4 0x9000 5 0x77)
+    results o 5 0x77 0xFF 0x20 && reads o 3 0x0011 2 0x90 && reads o 4 0x9000 5 0x77)
     ∷ reads (runs (registers 2 5 (state 9 0 0 0xFF 0x20 0x8000)) (zeros 2 from 0x8000 holds (0xD1 ∷ 0x10 ∷ []) from 0x0011 holds (0x90 ∷ []))) 4 0x9000 2 0
     -- 11 6509: STA (10),Y makes its last two accesses in the indirect bank
     ∷ (let o = runs (registers 2 5 (state 9 7 0 0xFF 0x20 0x8000)) (zeros 2 from 0x8000 holds (0x91 ∷ 0x10 ∷ []) from 0x0011 holds (0x90 ∷ [])) in
@@ -48,19 +48,19 @@ steps =
     ∷ (let o = runs (registers 2 0 (state 9 0xF7 0 0xFF 0x20 0x8000)) (zeros 1 from 0x8000 holds (0x85 ∷ 0x01 ∷ [])) in
     writes o 2 0x0001 2 0xF7 && eqb (at (o .state) 9) 7 && keeps o 1 0)
     -- 13 IRQ: FFFE, P with bit 4 clear, I set; with I set the instruction
-    ∷ (let o = stepped (state 2 7 0 0xFF 0x20 0x8000) (zeros 1 from 0x8000 holds (0xEA ∷ [])) 4 0 in
-    left o 7 7 0xFC 0x24 && writes o 4 0x01FD 0 0x20 && reads o 5 0xFFFE 0 0)
-    ∷ left (stepped (state 2 7 0 0xFF 0x24 0x8000) (zeros 1 from 0x8000 holds (0xEA ∷ [])) 4 0) 2 7 0xFF 0x24
+    ∷ (let o = tried (state 2 7 0 0xFF 0x20 0x8000) (zeros 1 from 0x8000 holds (0xEA ∷ [])) 4 0 in
+    results o 7 7 0xFC 0x24 && writes o 4 0x01FD 0 0x20 && reads o 5 0xFFFE 0 0)
+    ∷ results (tried (state 2 7 0 0xFF 0x24 0x8000) (zeros 1 from 0x8000 holds (0xEA ∷ [])) 4 0) 2 7 0xFF 0x24
     -- 15 NMI: an edge takes FFFA before an IRQ, and the level is stored; a level does not
-    ∷ (let o = stepped (state 2 7 0 0xFF 0x20 0x8000) (zeros 1 from 0x8000 holds (0xEA ∷ [])) 6 0 in
-    left o 7 7 0xFC 0x24 && reads o 5 0xFFFA 0 0 && eqb (at (o .state) 10) 1)
-    ∷ left (stepped (set (state 2 7 0 0xFF 0x20 0x8000) 10 1) (zeros 1 from 0x8000 holds (0xEA ∷ [])) 2 0) 2 7 0xFF 0x20
+    ∷ (let o = tried (state 2 7 0 0xFF 0x20 0x8000) (zeros 1 from 0x8000 holds (0xEA ∷ [])) 6 0 in
+    results o 7 7 0xFC 0x24 && reads o 5 0xFFFA 0 0 && eqb (at (o .state) 10) 1)
+    ∷ results (tried (set (state 2 7 0 0xFF 0x20 0x8000) 10 1) (zeros 1 from 0x8000 holds (0xEA ∷ [])) 2 0) 2 7 0xFF 0x20
     -- 17 RES before NMI, whose edge is lost; three stack reads, FFFC, D kept; a 6509's registers are 15 before the first access, a 6508's 0
-    ∷ (let o = stepped (registers 1 2 (state 9 7 0 0x01 0x28 0x8000)) (zeros 1 from 0xFFFC holds (0x34 ∷ 0x12 ∷ [])) 3 0 in
-    left o 7 7 0xFE 0x2C && reads o 0 0x8000 15 0 && reads o 4 0x01FF 15 0 && reads o 5 0xFFFC 15 0x34 && eqb (at (o .state) 10) 1 && eqb (at (o .state) 8) 15)
-    ∷ same (take 2 (drop 8 (stepped (registers 1 2 (state 8 7 0 0x01 0x28 0x8000)) (zeros 1) 1 0 .state))) (0 ∷ 0 ∷ [])
+    ∷ (let o = tried (registers 1 2 (state 9 7 0 0x01 0x28 0x8000)) (zeros 1 from 0xFFFC holds (0x34 ∷ 0x12 ∷ [])) 3 0 in
+    results o 7 7 0xFE 0x2C && reads o 0 0x8000 15 0 && reads o 4 0x01FF 15 0 && reads o 5 0xFFFC 15 0x34 && eqb (at (o .state) 10) 1 && eqb (at (o .state) 8) 15)
+    ∷ same (take 2 (drop 8 (tried (registers 1 2 (state 8 7 0 0x01 0x28 0x8000)) (zeros 1) 1 0 .state))) (0 ∷ 0 ∷ [])
     -- 19 BRK pushes PC+2 and P with bit 4 set; PHP pushes bits 4, 5 set
-    ∷ (let o = on 7 0 0xFF 0x20 (0x00 ∷ []) in left o 7 7 0xFC 0x24 && writes o 3 0x01FE 0 0x02 && writes o 4 0x01FD 0 0x30 && reads o 5 0xFFFE 0 0)
+    ∷ (let o = on 7 0 0xFF 0x20 (0x00 ∷ []) in results o 7 7 0xFC 0x24 && writes o 3 0x01FE 0 0x02 && writes o 4 0x01FD 0 0x30 && reads o 5 0xFFFE 0 0)
     ∷ writes (on 7 0 0xFF 0x24 (0x08 ∷ [])) 2 0x01FF 0 0x34
     -- 21 JMP (80FF) takes its high byte from "the next location"
     ∷ pcIs (runs (state 2 0 0 0 0x20 0x8000) (zeros 1 from 0x8000 holds (0x6C ∷ 0xFF ∷ 0x80 ∷ []) from 0x80FF holds (0x34 ∷ 0x12 ∷ []))) 0x34 0x12
@@ -68,28 +68,28 @@ steps =
     ∷ reads (runs (state 2 0 0 0xFF 0x20 0x01FD) (zeros 1 from 0x01FD holds (0x20 ∷ 0x34 ∷ 0x12 ∷ []))) 5 0x01FF 0 0x01
     -- 23 RTS reads where it returns to, and PC is one more; RTI goes there itself
     ∷ (let o = runs (state 2 7 0 0xFD 0x20 0x8000) (zeros 1 from 0x8000 holds (0x60 ∷ []) from 0x01FE holds (0xFF ∷ 0x12 ∷ [])) in
-    left o 6 7 0xFF 0x20 && reads o 2 0x01FD 0 0 && reads o 5 0x12FF 0 0 && pcIs o 0x00 0x13)
+    results o 6 7 0xFF 0x20 && reads o 2 0x01FD 0 0 && reads o 5 0x12FF 0 0 && pcIs o 0x00 0x13)
     ∷ (let o = runs (state 2 7 0 0xFC 0x20 0x8000) (zeros 1 from 0x8000 holds (0x40 ∷ []) from 0x01FD holds (0xFF ∷ 0x34 ∷ 0x12 ∷ [])) in
-    left o 6 7 0xFF 0xEF && pcIs o 0x34 0x12)
+    results o 6 7 0xFF 0xEF && pcIs o 0x34 0x12)
     -- 25 z,X wraps in page zero; (z,X) reads unindexed first; (FF),Y takes its pointer's high byte at 0000
     ∷ reads (on 0 0x02 0 0x20 (0xB5 ∷ 0xFF ∷ [])) 3 0x0001 0 0
-    ∷ (let o = on 0 0x02 0 0x20 (0xA1 ∷ 0xFD ∷ []) in left o 6 0 0 0x22 && reads o 2 0x00FD 0 0 && reads o 3 0x00FF 0 0 && reads o 4 0x0000 0 0)
+    ∷ (let o = on 0 0x02 0 0x20 (0xA1 ∷ 0xFD ∷ []) in results o 6 0 0 0x22 && reads o 2 0x00FD 0 0 && reads o 3 0x00FF 0 0 && reads o 4 0x0000 0 0)
     ∷ reads (on 0 0 0 0x20 (0xB1 ∷ 0xFF ∷ [])) 3 0x0000 0 0
     -- 28 shifts set N, Z, C: ROR A of 01 with C, LSR, ASL, ROL
-    ∷ left (on 0x01 0 0 0x21 (0x6A ∷ [])) 2 0x80 0 0xA1
-    ∷ left (on 0x01 0 0 0xA0 (0x4A ∷ [])) 2 0x00 0 0x23
-    ∷ left (on 0x80 0 0 0x20 (0x0A ∷ [])) 2 0x00 0 0x23
-    ∷ left (on 0x40 0 0 0x21 (0x2A ∷ [])) 2 0x81 0 0xA0
+    ∷ results (on 0x01 0 0 0x21 (0x6A ∷ [])) 2 0x80 0 0xA1
+    ∷ results (on 0x01 0 0 0xA0 (0x4A ∷ [])) 2 0x00 0 0x23
+    ∷ results (on 0x80 0 0 0x20 (0x0A ∷ [])) 2 0x00 0 0x23
+    ∷ results (on 0x40 0 0 0x21 (0x2A ∷ [])) 2 0x81 0 0xA0
     -- 32 a compare: below, equal; BIT takes N, V from memory
-    ∷ left (on 0x10 0 0 0x21 (0xC9 ∷ 0x20 ∷ [])) 2 0x10 0 0xA0
-    ∷ left (on 0x10 0 0 0x20 (0xC9 ∷ 0x10 ∷ [])) 2 0x10 0 0x23
-    ∷ left (runs (state 2 0x3F 0 0 0x20 0x8000) (zeros 1 from 0x8000 holds (0x24 ∷ 0x10 ∷ []) from 0x10 holds (0xC0 ∷ []))) 3 0x3F 0 0xE2
+    ∷ results (on 0x10 0 0 0x21 (0xC9 ∷ 0x20 ∷ [])) 2 0x10 0 0xA0
+    ∷ results (on 0x10 0 0 0x20 (0xC9 ∷ 0x10 ∷ [])) 2 0x10 0 0x23
+    ∷ results (runs (state 2 0x3F 0 0 0x20 0x8000) (zeros 1 from 0x8000 holds (0x24 ∷ 0x10 ∷ []) from 0x10 holds (0xC0 ∷ []))) 3 0x3F 0 0xE2
     -- 35 TXS sets no flags, TSX does
-    ∷ left (on 7 0 0xFF 0x20 (0x9A ∷ [])) 2 7 0x00 0x20
-    ∷ left (on 7 1 0x00 0x20 (0xBA ∷ [])) 2 7 0x00 0x22
+    ∷ results (on 7 0 0xFF 0x20 (0x9A ∷ [])) 2 7 0x00 0x20
+    ∷ results (on 7 1 0x00 0x20 (0xBA ∷ [])) 2 7 0x00 0x22
     -- 37 traps: a crossing is judged from the next instruction's address, here 8100, not from the branch's own; PLA sets N
-    ∷ left (runs (state 2 7 0 0xFF 0x20 0x80FE) (zeros 1 from 0x80FE holds (0xD0 ∷ 0x00 ∷ []))) 3 7 0xFF 0x20
-    ∷ left (runs (state 2 7 0 0xFE 0x20 0x8000) (zeros 1 from 0x8000 holds (0x68 ∷ []) from 0x01FF holds (0x80 ∷ []))) 4 0x80 0xFF 0xA0
+    ∷ results (runs (state 2 7 0 0xFF 0x20 0x80FE) (zeros 1 from 0x80FE holds (0xD0 ∷ 0x00 ∷ []))) 3 7 0xFF 0x20
+    ∷ results (runs (state 2 7 0 0xFE 0x20 0x8000) (zeros 1 from 0x8000 holds (0x68 ∷ []) from 0x01FF holds (0x80 ∷ []))) 4 0x80 0xFF 0xA0
     -- 39 the cycle count is 511 and then 513, "low byte first"
     ∷ same (drop 12 (runs (set (set (state 2 0 0 0 0x20 0x8000) 12 0xFF) 13 0x01) (zeros 1 from 0x8000 holds (0xEA ∷ [])) .state)) (0x01 ∷ 0x02 ∷ 0 ∷ 0 ∷ [])
     -- 40 sums past FFFF wrap: NOP at FFFF; LDA FFFF,X, X = 1; BNE at FFFD to 0000, and at 0000 to FFFF; JMP (FFFF)
@@ -99,9 +99,9 @@ steps =
     ∷ (let o = runs (state 2 0 0 0 0x20 0x0000) (zeros 1 from 0x0000 holds (0xD0 ∷ 0xFD ∷ [])) in reads o 3 0x00FF 0 0 && pcIs o 0xFF 0xFF)
     ∷ (let o = on 0 0 0 0x20 (0x6C ∷ 0xFF ∷ 0xFF ∷ []) in reads o 3 0xFFFF 0 0 && reads o 4 0x0000 0 0)
     -- 45 decimal 20 - 01, C = 1: the low digits borrow, 19; FF + 01: 00, Z, C; ROL A of 80 with C
-    ∷ left (on 0x20 0 0 0x29 (0xE9 ∷ 0x01 ∷ [])) 2 0x19 0 0x29
-    ∷ left (on 0xFF 0 0 0x20 (0x69 ∷ 0x01 ∷ [])) 2 0x00 0 0x23
-    ∷ left (on 0x80 0 0 0x21 (0x2A ∷ [])) 2 0x01 0 0x21
+    ∷ results (on 0x20 0 0 0x29 (0xE9 ∷ 0x01 ∷ [])) 2 0x19 0 0x29
+    ∷ results (on 0xFF 0 0 0x20 (0x69 ∷ 0x01 ∷ [])) 2 0x00 0 0x23
+    ∷ results (on 0x80 0 0 0x21 (0x2A ∷ [])) 2 0x01 0 0x21
     -- 48 the cycle count is FFFFFFFF and then 1, "modulo 2^32"
     ∷ same (drop 12 (runs (take 12 (state 2 0 0 0 0x20 0x8000) ++ replicate 4 0xFF) (zeros 1 from 0x8000 holds (0xEA ∷ [])) .state)) (1 ∷ 0 ∷ 0 ∷ 0 ∷ [])
     -- 49 6509: "A bank change holds from the next access": after E6 00 in bank 2 the next step's opcode is read in bank 3
@@ -131,8 +131,8 @@ refusals =
     ∷ eqb (stepWord (runs (state 3 0 0 0 0x20 0x8000) (zeros 1) .answer)) 2
     -- 12 a 6509's image of three banks; NMI on a 6508, and pins off it
     ∷ eqb (stepWord (runs (state 9 0 0 0 0x20 0x8000) (zeros 3) .answer)) 3
-    ∷ eqb (stepWord (stepped (state 8 0 0 0 0x20 0x8000) (zeros 1) 2 0 .answer)) 4
-    ∷ eqb (stepWord (stepped (state 9 0 0 0 0x20 0x8000) (zeros 1) 0 1 .answer)) 4
+    ∷ eqb (stepWord (tried (state 8 0 0 0 0x20 0x8000) (zeros 1) 2 0 .answer)) 4
+    ∷ eqb (stepWord (tried (state 9 0 0 0 0x20 0x8000) (zeros 1) 0 1 .answer)) 4
     -- 15 a run: 3 before 7, 7 before anything; one step stands and is counted, the next is undefined
     ∷ eqb (runWords (runOf charts (state 2 0 0 0 0x20 0x8000) (zeros 2) (0 ∷ []) [] .answer) .word) 3
     ∷ eqb (runWords (runOf charts (state 2 0 0 0 0x20 0x8000) (zeros 1) (0 ∷ []) [] .answer) .word) 7

@@ -47,18 +47,18 @@ abbrev pub registers : ℕ → ℕ → List ℕ → List ℕ
 registers first second r = set (set r 8 first) 9 second
 
 -- a step with room for one; with no line asserted; of the instruction at 8000 of a 6502
-abbrev pub stepped : List ℕ → Chart → ℕ → ℕ → Outcome StepAnswer Chart
-stepped r m lines pins = step charts r m lines pins (replicate 56 0)
+abbrev pub tried : List ℕ → Chart → ℕ → ℕ → Outcome StepAnswer Chart
+tried r m lines pins = step charts r m lines pins (replicate 56 0)
 
 abbrev pub runs : List ℕ → Chart → Outcome StepAnswer Chart
-runs r m = stepped r m 0 0
+runs r m = tried r m 0 0
 
 abbrev pub on : ℕ → ℕ → ℕ → ℕ → List ℕ → Outcome StepAnswer Chart
 on a x s p code = runs (state 2 a x s p 0x8000) (zeros 1 from 0x8000 holds code)
 
--- it answered n accesses, and left A, S and P so
-abbrev pub left : Outcome StepAnswer Chart → ℕ → ℕ → ℕ → ℕ → Bool
-left o n a s p = same (stepWord (o .answer) ∷ at (o .state) 1 ∷ at (o .state) 4 ∷ at (o .state) 5 ∷ []) (256 * n ∷ a ∷ s ∷ p ∷ [])
+-- it answered n accesses, and results A, S and P so
+abbrev pub results : Outcome StepAnswer Chart → ℕ → ℕ → ℕ → ℕ → Bool
+results o n a s p = same (stepWord (o .answer) ∷ at (o .state) 1 ∷ at (o .state) 4 ∷ at (o .state) 5 ∷ []) (256 * n ∷ a ∷ s ∷ p ∷ [])
 
 -- its access k, counted from 0, was a read or a write of v at p, with this bank selected
 abbrev pub accessed : ℕ → Outcome StepAnswer Chart → ℕ → ℕ → ℕ → ℕ → Bool
@@ -77,33 +77,33 @@ keeps o p v = eqb (o .image .byteAt p) v
 abbrev starred : List Bool
 starred =
     -- A9 00: Z, 2 cycles
-    left (on 7 0 0xFF 0x20 (0xA9 ∷ 0x00 ∷ [])) 2 0 0xFF 0x22
+    results (on 7 0 0xFF 0x20 (0xA9 ∷ 0x00 ∷ [])) 2 0 0xFF 0x22
     -- ADC 7F + 01, C = 0: 80, N, V
-    ∷ left (on 0x7F 0 0xFF 0x20 (0x69 ∷ 0x01 ∷ [])) 2 0x80 0xFF 0xE0
+    ∷ results (on 0x7F 0 0xFF 0x20 (0x69 ∷ 0x01 ∷ [])) 2 0x80 0xFF 0xE0
     -- SBC 50 - B0, C = 1: A0, N, V, no C
-    ∷ left (on 0x50 0 0xFF 0x21 (0xE9 ∷ 0xB0 ∷ [])) 2 0xA0 0xFF 0xE0
+    ∷ results (on 0x50 0 0xFF 0x21 (0xE9 ∷ 0xB0 ∷ [])) 2 0xA0 0xFF 0xE0
     -- Decimal 58 + 46, C = 1: 05, C, N, V
-    ∷ left (on 0x58 0 0xFF 0x29 (0x69 ∷ 0x46 ∷ [])) 2 0x05 0xFF 0xE9
+    ∷ results (on 0x58 0 0xFF 0x29 (0x69 ∷ 0x46 ∷ [])) 2 0x05 0xFF 0xE9
     -- Decimal 12 - 21, C = 1: 91, N, no C
-    ∷ left (on 0x12 0 0xFF 0x29 (0xE9 ∷ 0x21 ∷ [])) 2 0x91 0xFF 0xA8
+    ∷ results (on 0x12 0 0xFF 0x29 (0xE9 ∷ 0x21 ∷ [])) 2 0x91 0xFF 0xA8
     -- LDA 80FF,X: X = 0, 4 cycles; X = 1, 5, the fourth at 8000
-    ∷ left (on 7 0 0xFF 0x20 (0xBD ∷ 0xFF ∷ 0x80 ∷ [])) 4 0 0xFF 0x22
-    ∷ (let o = on 7 1 0xFF 0x20 (0xBD ∷ 0xFF ∷ 0x80 ∷ []) in left o 5 0 0xFF 0x22 && reads o 3 0x8000 0 0xBD)
+    ∷ results (on 7 0 0xFF 0x20 (0xBD ∷ 0xFF ∷ 0x80 ∷ [])) 4 0 0xFF 0x22
+    ∷ (let o = on 7 1 0xFF 0x20 (0xBD ∷ 0xFF ∷ 0x80 ∷ []) in results o 5 0 0xFF 0x22 && reads o 3 0x8000 0 0xBD)
     -- STA 8000,X, X = 0: 5
-    ∷ left (on 7 0 0xFF 0x20 (0x9D ∷ 0x00 ∷ 0x80 ∷ [])) 5 7 0xFF 0x20
+    ∷ results (on 7 0 0xFF 0x20 (0x9D ∷ 0x00 ∷ 0x80 ∷ [])) 5 7 0xFF 0x20
     -- BNE at 80FD taken: offset 0, 3 cycles; offset 1, 4
-    ∷ left (runs (state 2 7 0 0xFF 0x20 0x80FD) (zeros 1 from 0x80FD holds (0xD0 ∷ 0x00 ∷ []))) 3 7 0xFF 0x20
-    ∷ left (runs (state 2 7 0 0xFF 0x20 0x80FD) (zeros 1 from 0x80FD holds (0xD0 ∷ 0x01 ∷ []))) 4 7 0xFF 0x20
+    ∷ results (runs (state 2 7 0 0xFF 0x20 0x80FD) (zeros 1 from 0x80FD holds (0xD0 ∷ 0x00 ∷ []))) 3 7 0xFF 0x20
+    ∷ results (runs (state 2 7 0 0xFF 0x20 0x80FD) (zeros 1 from 0x80FD holds (0xD0 ∷ 0x01 ∷ []))) 4 7 0xFF 0x20
     -- JSR at 8000, S = 00: 80 at 0100, 02 at 01FF, S = FE
-    ∷ (let o = on 7 0 0x00 0x20 (0x20 ∷ 0x34 ∷ 0x12 ∷ []) in left o 6 7 0xFE 0x20 && keeps o 0x0100 0x80 && keeps o 0x01FF 0x02)
+    ∷ (let o = on 7 0 0x00 0x20 (0x20 ∷ 0x34 ∷ 0x12 ∷ []) in results o 6 7 0xFE 0x20 && keeps o 0x0100 0x80 && keeps o 0x01FF 0x02)
     -- PLP of FF: P = EF; of 00: 20
-    ∷ left (runs (state 2 7 0 0xFE 0x20 0x8000) (zeros 1 from 0x8000 holds (0x28 ∷ []) from 0x01FF holds (0xFF ∷ []))) 4 7 0xFF 0xEF
-    ∷ left (runs (state 2 7 0 0xFE 0xE3 0x8000) (zeros 1 from 0x8000 holds (0x28 ∷ []))) 4 7 0xFF 0x20
+    ∷ results (runs (state 2 7 0 0xFE 0x20 0x8000) (zeros 1 from 0x8000 holds (0x28 ∷ []) from 0x01FF holds (0xFF ∷ []))) 4 7 0xFF 0xEF
+    ∷ results (runs (state 2 7 0 0xFE 0xE3 0x8000) (zeros 1 from 0x8000 holds (0x28 ∷ []))) 4 7 0xFF 0x20
     -- 6508, direction 0F, output A5, pins 5A: reads 55
-    ∷ left (stepped (registers 0x0F 0xA5 (state 8 7 0 0xFF 0x20 0x8000)) (zeros 1 from 0x8000 holds (0xA5 ∷ 0x01 ∷ [])) 0 0x5A) 3 0x55 0xFF 0x20
+    ∷ results (tried (registers 0x0F 0xA5 (state 8 7 0 0xFF 0x20 0x8000)) (zeros 1 from 0x8000 holds (0xA5 ∷ 0x01 ∷ [])) 0 0x5A) 3 0x55 0xFF 0x20
     -- 6509, execution bank 2, E6 00: writes 02, then 03; bank 3 next
     ∷ (let o = runs (registers 2 0 (state 9 7 0 0xFF 0x20 0x8000)) (zeros 1 from 0x8000 holds (0xE6 ∷ 0x00 ∷ [])) in
-    left o 5 7 0xFF 0x20 && writes o 3 0x0000 2 0x02 && writes o 4 0x0000 2 0x03 && eqb (at (o .state) 8) 3)
+    results o 5 7 0xFF 0x20 && writes o 3 0x0000 2 0x02 && writes o 4 0x0000 2 0x03 && eqb (at (o .state) 8) 3)
     ∷ []
 
 examples : failing 1 starred ≡ []

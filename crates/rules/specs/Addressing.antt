@@ -19,12 +19,16 @@ put p v = write execution p v (done tt)
 abbrev pub oldPage : ℕ → ℕ → ℕ
 oldPage a i = a / 256 * 256 + (a + i) % 256
 
+-- an address that is read from two places, its low byte first
+abbrev pub wordAt : ℕ → ℕ → Cycles ℕ
+wordAt one two = do
+  low ← get one
+  high ← get two
+  done (address low high)
+
 -- "pointer low, high (both in page zero)"
 unfoldable pub pointer : ℕ → Cycles ℕ
-pointer z = do
-  low ← get z
-  high ← get (sum8 z 1)
-  done (address low high)
+pointer z = wordAt z (sum8 z 1)
 
 -- z,X and z,Y: "read the unindexed zero-page address"; then the data's address, of (z,X) the pointer's
 unfoldable pub zeroIndexed : ℕ → ℕ → Cycles ℕ

@@ -38,8 +38,8 @@ tested (t ∷ ts) refuse a = if t .holds then tested ts refuse a else refuse (t 
 abbrev pub plain : ℕ → Numbers
 plain n = record { number = n; small = 0; large = 0 }
 
-abbrev pub indexed : ℕ → ℕ → Numbers
-indexed n i = record { number = n; small = 0; large = i }
+abbrev pub withIndex : ℕ → ℕ → Numbers
+withIndex n i = record { number = n; small = 0; large = i }
 
 abbrev pub numbersOf : Refusal → Numbers
 numbersOf RecordLength = plain 1
@@ -51,12 +51,12 @@ numbersOf (Undefined pc opcode) = record { number = 6; small = opcode; large = p
 numbersOf ScriptLength = plain 7
 numbersOf FileLength = plain 8
 numbersOf Admission = plain 10
-numbersOf (MapRecord i) = indexed 11 i
+numbersOf (MapRecord i) = withIndex 11 i
 numbersOf Vectors = plain 12
-numbersOf (Place i) = indexed 13 i
-numbersOf (StoreAddress i) = indexed 14 i
-numbersOf (Stack i) = indexed 15 i
-numbersOf (Successor i) = indexed 16 i
+numbersOf (Place i) = withIndex 13 i
+numbersOf (StoreAddress i) = withIndex 14 i
+numbersOf (Stack i) = withIndex 15 i
+numbersOf (Successor i) = withIndex 16 i
 numbersOf ListLength = plain 20
 numbersOf ListRecord = plain 21
 numbersOf Total = plain 22

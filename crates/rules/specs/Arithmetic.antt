@@ -100,13 +100,13 @@ abbrev pub shifted : ℕ → Bool → Flags → Result
 shifted v out f = record { value = v; flags = withC out (nz v f) }
 
 -- "steps by one set N, Z"
-abbrev pub stepped : ℕ → Flags → Result
-stepped v f = record { value = v; flags = nz v f }
+abbrev pub byOne : ℕ → Flags → Result
+byOne v f = record { value = v; flags = nz v f }
 
 unfoldable pub changed : Changing → ℕ → Flags → Result
 changed Asl v f = shifted (v * 2 % 256) (bitOf 128 v) f
 changed Rol v f = shifted (v * 2 % 256 + bit (f .c)) (bitOf 128 v) f
 changed Lsr v f = shifted (v / 2) (bitOf 1 v) f
 changed Ror v f = shifted (v / 2 + bit (f .c) * 128) (bitOf 1 v) f
-changed Dec v f = stepped (sum8 v 255) f
-changed Inc v f = stepped (sum8 v 1) f
+changed Dec v f = byOne (sum8 v 255) f
+changed Inc v f = byOne (sum8 v 1) f

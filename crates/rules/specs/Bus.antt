@@ -26,7 +26,7 @@ selected b k = if is6509 (b .part) then elim k [ execution ↦ b .first | indire
 -- What an address reaches: the register at 0000, the one at 0001, or a byte of the image.
 pub data Cell : Type 0 where
   first second : Cell
-  byte : ℕ → Cell
+  ofImage : ℕ → Cell
 
 -- 6509: "bank b is bank b modulo k of the image". 6508: "Addresses 0100 to 01FF reach image bytes 0 to 255".
 unfoldable pub imageAt : Bus → Bank → ℕ → ℕ
@@ -36,7 +36,7 @@ imageAt b k p =
 -- the 6502 has no registers there; a 6509 has them "in every bank"
 unfoldable pub cellOf : Bus → Bank → ℕ → Cell
 cellOf b k p =
-    let cell = byte (imageAt b k p) in
+    let cell = ofImage (imageAt b k p) in
     if is6508 (b .part) || is6509 (b .part) then if eqb p 0 then first else if eqb p 1 then second else cell else cell
 
 -- 6508: "Reading 0001 gives the output bit where direction is 1, the pin where it is 0."
@@ -90,13 +90,13 @@ module _ {M : Type 0} (memory : Memory M) where
   abbrev pub held : World M → Cell → ℕ
   held w first = w .bus .first
   held w second = if is6508 (w .bus .part) then port (w .bus) else w .bus .second
-  held w (byte n) = memory .peek (w .image) n
+  held w (ofImage n) = memory .peek (w .image) n
 
   -- "Register writes leave the image byte beneath unchanged."
   abbrev pub kept : World M → Cell → ℕ → World M
   kept w first v = world (withRegisters (narrow (w .bus .part) v) (w .bus .second) (w .bus)) (w .image)
   kept w second v = world (withRegisters (w .bus .first) (narrow (w .bus .part) v) (w .bus)) (w .image)
-  kept w (byte n) v = world (w .bus) (memory .poke (w .image) n v)
+  kept w (ofImage n) v = world (w .bus) (memory .poke (w .image) n v)
 
   unfoldable pub look : World M → Bank → ℕ → ℕ
   look w k p = held w (cellOf (w .bus) k p)

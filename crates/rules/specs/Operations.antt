@@ -21,9 +21,9 @@ use Rattle.rules.specs.declared.Instruction.the-variants.{Read, Store, C
 use Rattle.rules.specs.Basics.{if_then_else_, address, sum8, sum16}
 use Rattle.rules.specs.Cycles.{Cycles, done, write, _>>=_, _>>_}
 use Rattle.rules.specs.Flags.{byteOf4, flagsOf, nz, withV, withD, withI, withC}
-use Rattle.rules.specs.Arithmetic.{adc, sbc, compare, bitTest, changed}
+use Rattle.rules.specs.Arithmetic.{signed, adc, sbc, compare, bitTest, changed}
 use Rattle.rules.specs.Opcodes.{Entry, undefined, alone, byte, word, late, decode}
-use Rattle.rules.specs.Addressing.{get, put, load, place, bankOf}
+use Rattle.rules.specs.Addressing.{get, put, wordAt, load, place, bankOf}
 
 -- The registers, one changed.
 
@@ -97,9 +97,9 @@ taken Bcs f = f .c
 taken Bne f = not (f .z)
 taken Beq f = f .z
 
--- the next instruction's address plus the offset, a signed byte
+-- the next instruction's address plus the offset, a signed byte; 65408 takes back the 128 that `signed` adds, modulo 65536
 abbrev pub target : ℕ → ℕ → ℕ
-target next o = (next + (o + 128) % 256 + 65408) % 65536
+target next o = (next + signed o + 65408) % 65536
 
 -- "read the next instruction's address; if the target's page differs from that one, read the next instruction's page with the
 -- target's low byte"
@@ -122,9 +122,8 @@ pushPc pc s = put (stack s) (pc / 256) >> put (stack (down 1 s)) (pc % 256)
 -- how BRK, an interrupt and a reset end: S is lower by 3, "read the vector", "set I"
 unfoldable pub enter : ℕ → Cpu → Cycles Cpu
 enter vector c = do
-  low ← get vector
-  high ← get (vector + 1)
-  done (withPc (address low high) (withP (withI true (c .p)) (withS (down 3 (c .s)) c)))
+  to ← wordAt vector (vector + 1)
+  done (withPc to (withP (withI true (c .p)) (withS (down 3 (c .s)) c)))
 
 -- "Push: PC+1, write at S."
 unfoldable pub push : ℕ → Cpu → Cycles Cpu
@@ -181,10 +180,7 @@ brk c = do
 
 -- "JMP (a): two operands, pointer, and the next location"
 unfoldable pub jumpIndirect : ℕ → Cpu → Cycles Cpu
-jumpIndirect a c = do
-  low ← get a
-  high ← get (sum16 a 1)
-  done (withPc (address low high) c)
+jumpIndirect a c = wordAt a (sum16 a 1) >>= λ to. done (withPc to c)
 
 unfoldable pub perform : Instruction → Cpu → Cycles Cpu
 perform (Read o m) c = load c m >>= λ v. done (used o v c)
@@ -209,17 +205,17 @@ perform Cli c = done (withP (withI false (c .p)) c)
 perform Undefined c = done c
 
 -- PC one further
-abbrev pub next : Cpu → Cpu
-next c = withPc (sum16 (c .pc) 1) c
+abbrev pub onward : Cpu → Cpu
+onward c = withPc (sum16 (c .pc) 1) c
 
 -- the operand, or "Implied, A: read PC+1", and the instruction
 unfoldable pub operate : Entry → Cpu → Cycles Cpu
 operate undefined c = done c
 operate (alone i) c = get (c .pc) >> perform i c
-operate (byte f) c = get (c .pc) >>= λ v. perform (f v) (next c)
-operate (word f) c = get (c .pc) >>= λ low. get (next c .pc) >>= λ high. perform (f low high) (next (next c))
-operate (late f) c = get (c .pc) >>= λ low. perform (f low) (next c)
+operate (byte f) c = get (c .pc) >>= λ v. perform (f v) (onward c)
+operate (word f) c = get (c .pc) >>= λ low. get (onward c .pc) >>= λ high. perform (f low high) (onward (onward c))
+operate (late f) c = get (c .pc) >>= λ low. perform (f low) (onward c)
 
 -- the instruction at PC
 unfoldable pub instruction : Cpu → Cycles Cpu
-instruction c = get (c .pc) >>= λ op. operate (decode op) (next c)
+instruction c = get (c .pc) >>= λ op. operate (decode op) (onward c)

@@ -23,8 +23,8 @@ abbrev pub start : {M : Type 0} → List ℕ → M → List ℕ → Outcome Tall
 start r m buffer = left (record { steps = 0; listed = 0 }) r m buffer
 
 -- where the run stands after that step o, of n accesses
-abbrev pub moved : {M : Type 0} → Outcome Tally M → Outcome StepAnswer M → ℕ → Outcome Tally M
-moved s o n =
+abbrev pub further : {M : Type 0} → Outcome Tally M → Outcome StepAnswer M → ℕ → Outcome Tally M
+further s o n =
     left (record { steps = s .answer .steps + 1; listed = s .answer .listed + n }) (o .state) (o .image)
     (take (8 * s .answer .listed) (s .accesses) ++ o .accesses)
 
@@ -36,10 +36,10 @@ abbrev pub stopped : {M : Type 0} → Outcome Tally M → Refusal → Outcome Ru
 stopped s e = worded (λ t. Stopped (t .steps) (t .listed) e) s
 
 -- after a step o that answered so: the rest of the run, or its end
-abbrev pub goesOn : {M : Type 0} → (Outcome Tally M → Outcome RunAnswer M) → Outcome Tally M → Outcome StepAnswer M → StepAnswer →
+abbrev pub continued : {M : Type 0} → (Outcome Tally M → Outcome RunAnswer M) → Outcome Tally M → Outcome StepAnswer M → StepAnswer →
     Outcome RunAnswer M
-goesOn rest s o (Stepped n) = rest (moved s o n)
-goesOn rest s o (Refused e) = stopped s e
+continued rest s o (Stepped n) = rest (further s o n)
+continued rest s o (Refused e) = stopped s e
 
 module _ {M : Type 0} (memory : Memory M) where
   -- one step of a run that stands at s, into the rest of the access buffer
@@ -50,7 +50,7 @@ module _ {M : Type 0} (memory : Memory M) where
   unfoldable pub play : List ℕ → Outcome Tally M → Outcome RunAnswer M
   play [] s = played s
   play (lines ∷ []) s = played s
-  play (lines ∷ pins ∷ script) s = let o = stepAt lines pins s in goesOn (λ t. play script t) s o (o .answer)
+  play (lines ∷ pins ∷ script) s = let o = stepAt lines pins s in continued (λ t. play script t) s o (o .answer)
 
   -- "Run: 1, 2, 3, 7 before anything"
   abbrev pub runTests : List ℕ → M → List ℕ → List Test

@@ -13,7 +13,7 @@ use Rattle.rules.specs.Answers.{stepWord, refusalWord}
 use Rattle.rules.specs.Basics.{at}
 use Rattle.rules.specs.Bus.{images}
 use Rattle.rules.specs.Step.{Outcome, step, left, worded}
-use Rattle.rules.specs.Run.{goesOn, play}
+use Rattle.rules.specs.Run.{continued, play}
 use Rattle.laws.proofs.Lists.{rest-lent}
 use Rattle.laws.proofs.Steps.{Done, lawful}
 use Rattle.checks.specs.Checks.{Fits}
@@ -66,7 +66,7 @@ module _ (s r m l : List ℕ) (i listed : ℕ) where
 
   taken : i + 1 < length s →
       play images (drop i s) (standing i listed r m l) ≡
-      goesOn (play images (drop (i + 2) s)) (standing i listed r m l) turn (turn .answer)
+      continued (play images (drop (i + 2) s)) (standing i listed r m l) turn (turn .answer)
   unfolding play
   taken h = ap (λ (t : List ℕ). play images t (standing i listed r m l)) (next-two s i h)
 
@@ -77,7 +77,7 @@ module _ (s r m l : List ℕ) (i listed : ℕ) where
         play images (drop (i + 2) s) (standing (i + 2) (listed + n) r′ m′ (take (8 * listed) l ++ t))
     goes-on h =
         let k : i / 2 + 1 ≡ (i + 2) / 2 = omega arith in
-        taken h ∙ (λ j. let o = sym e j in goesOn (play images (drop (i + 2) s)) (standing i listed r m l) o (o .answer))
+        taken h ∙ (λ j. let o = sym e j in continued (play images (drop (i + 2) s)) (standing i listed r m l) o (o .answer))
         ∙ (λ j. play images (drop (i + 2) s) (left (record { steps = k j; listed = listed + n }) r′ m′ (take (8 * listed) l ++ t)))
 
     did : Done images r m (at s i) (at s (i + 1)) rest (left (Stepped n) r′ m′ t) n
@@ -99,4 +99,4 @@ module _ (s r m l : List ℕ) (i listed : ℕ) where
       let back = take-append-drop (8 * listed) l in
       (λ j. let o = q j in left (Stopped (i / 2) listed d) (o .state) (o .image) (take (8 * listed) l ++ o .accesses))
       ∙ (λ j. left (Stopped (i / 2) listed d) r m (back j))
-      ∙ sym (taken h ∙ (λ j. let o = sym e j in goesOn (play images (drop (i + 2) s)) (standing i listed r m l) o (o .answer)))
+      ∙ sym (taken h ∙ (λ j. let o = sym e j in continued (play images (drop (i + 2) s)) (standing i listed r m l) o (o .answer)))

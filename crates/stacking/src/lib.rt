@@ -13,7 +13,7 @@ ghost use Rattle.rules.specs.Operations.{withS, withPc, stack, push, rts, rti, 
 ghost use Rattle.state.specs.Makes.{Makes};
 ghost use Rattle.wiring.specs.Wiring.{Stands, Ready};
 ghost use Rattle.laws.specs.Goes.{Goes, Does};
-ghost use Rattle.reads.specs.Words.{wordAt};
+ghost use Rattle.rules.specs.Addressing.{wordAt};
 ghost use Rattle.stacking.specs.Pulled.{pulledAt};
 
 // "Push: PC+1, write at S."

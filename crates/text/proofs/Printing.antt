@@ -19,7 +19,7 @@ use Rattle.checks.specs.Checks.{Fits}
 use Rattle.words.proofs.Laws.{counted}
 use Rattle.rules.specs.Text.{textOf, refusalLine, stepText, printed}
 use Rattle.characters.specs.Shown.{Shows}
-use Rattle.text.specs.Print.{printout, used, printing}
+use Rattle.text.specs.Print.{printout, inputAfter, printing}
 
 module _ (i t t′ : List ℕ) (n : ℕ) where
   -- the step that is made
@@ -27,22 +27,22 @@ module _ (i t t′ : List ℕ) (n : ℕ) where
   made = step images (take 16 i) (drop 18 i) (at i 16) (at i 17) (replicate 56 0)
 
   pub print-short : length i < 16 → Shows (refusalLine RecordLength) n t t′ → printout n i t′ ≡ printing i t
-  unfolding textOf used
+  unfolding textOf inputAfter
   print-short h s = rw (lt-leb 16 (length i) h, s .count, s .text)
 
   module _ (room : 16 ≤ length i) where
     pub print-malformed : wellFormed (take 16 i) ≡ false → Shows (refusalLine Malformed) n t t′ → printout n i t′ ≡ printing i t
-    unfolding textOf used
+    unfolding textOf inputAfter
     print-malformed h s = rw (le-leb 16 (length i) room, h, s .count, s .text)
 
     module _ (well : wellFormed (take 16 i) ≡ true) where
       pub print-length : (length i ≡ 65554 → ⊥) → Shows (refusalLine ImageLength) n t t′ → printout n i t′ ≡ printing i t
-      unfolding textOf used
+      unfolding textOf inputAfter
       print-length h s = rw (le-leb 16 (length i) room, well, ne-eqb (length i) 65554 h, s .count, s .text)
 
       print-made : (a : StepAnswer) (r m l : List ℕ) → length i ≡ 65554 → left a r m l ≡ made → Shows (stepText a r l) n t t′ →
           printout n (take 18 i ++ m) t′ ≡ printing i t
-      unfolding textOf used
+      unfolding textOf inputAfter
       print-made a r m l h e s = rw (le-leb 16 (length i) room, well, eq-eqb (length i) 65554 h, ← e, s .count, s .text)
 
       pub print-step : (word : ℕ) (r m l : List ℕ) → length i ≡ 65554 → left word r m l ≡ worded stepWord made →

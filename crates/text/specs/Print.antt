@@ -17,10 +17,10 @@ abbrev pub printout : ℕ → List ℕ → List ℕ → Printout
 printout n i t = record { count = n; input = i; text = t }
 
 -- the input with its image as the step leaves it
-unfoldable pub used : List ℕ → List ℕ
-used i =
+unfoldable pub inputAfter : List ℕ → List ℕ
+inputAfter i =
     tested (inputTests (length i) (take 16 i)) (λ e. i) (take 18 i ++ stepOf images (take 16 i) (at i 16) (at i 17) (drop 18 i) .image)
 
 -- the text fills the buffer's front and later bytes stay
 abbrev pub printing : List ℕ → List ℕ → Printout
-printing i t = printout (length (printed i)) (used i) (front (printed i) t)
+printing i t = printout (length (printed i)) (inputAfter i) (front (printed i) t)

@@ -82,8 +82,8 @@ executed {s} {i} {n = n} {m = m} {r′ = r′} {i′ = i′} {l′ = l′} {r″
         λ j. left ((p .0 ∙ sym (q .0)) j) ((p .1 ∙ sym (q .1)) j) ((p .2 ∙ sym (q .2)) j) ((p .3 ∙ sym (q .3)) j)
 
 -- what is left where the image is not written, and where it is and the record is the second parameter
-abbrev pub pulled : Outcome ℕ (List ℕ) → Unit {0} × (List ℕ × (Unit {0} × (Unit {0} × (List ℕ × Unit {0}))))
-pulled o = (tt, (o .state, (tt, (tt, (o .accesses, tt)))))
+abbrev pub lent-0-3 : Outcome ℕ (List ℕ) → Unit {0} × (List ℕ × (Unit {0} × (Unit {0} × (List ℕ × Unit {0}))))
+lent-0-3 o = (tt, (o .state, (tt, (tt, (o .accesses, tt)))))
 
-abbrev pub pushed : Outcome ℕ (List ℕ) → Unit {0} × (Unit {0} × (List ℕ × (Unit {0} × (List ℕ × (List ℕ × Unit {0})))))
-pushed o = (tt, (tt, (o .state, (tt, (o .image, (o .accesses, tt))))))
+abbrev pub lent-1-3-4 : Outcome ℕ (List ℕ) → Unit {0} × (Unit {0} × (List ℕ × (Unit {0} × (List ℕ × (List ℕ × Unit {0})))))
+lent-1-3-4 o = (tt, (tt, (o .state, (tt, (o .image, (o .accesses, tt))))))

@@ -9,7 +9,7 @@ use lib.Dec.{ltb, eqb}
 use Rattle.rules.specs.declared.Bus.{Bus}
 use Rattle.rules.specs.Basics.{if_then_else_}
 use Rattle.rules.specs.Cycles.{Bank}
-use Rattle.rules.specs.Bus.{Cell, first, second, byte, imageAt, cellOf}
+use Rattle.rules.specs.Bus.{Cell, first, second, ofImage, imageAt, cellOf}
 use Rattle.wiring.specs.Wiring.{plainOf, baseOf, Part, the6502, the6508, the6509}
 use Rattle.wiring.specs.Cells.{reached}
 
@@ -38,7 +38,7 @@ first-pages p = go (eqb (p / 256) 1) refl
 
 -- what an address reaches where no register is, and where one is
 pub cell-byte : (κ : Bank) (u : Bus) (p : ℕ) → Part (u .part) → (p < 2 → plainOf (u .part) ≡ 0) →
-    cellOf u κ p ≡ byte (reached (plainOf (u .part)) (baseOf u κ) p)
+    cellOf u κ p ≡ ofImage (reached (plainOf (u .part)) (baseOf u κ) p)
 unfolding cellOf imageAt
 cell-byte κ u p (the6502 e) h = let z : 0 + p ≡ p = omega arith in rw (e, le-ltb p 0 (omega arith), z)
 cell-byte κ u p (the6508 e) h = let t = above p 512 (omega arith) (rw e at h) in rw (e, t .0, t .1, first-pages p)

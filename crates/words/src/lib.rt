@@ -3,7 +3,7 @@
 use rules::Numbers;
 use rules::Refusal;
 ghost use mathlib.Core.Path.{_≡_};
-ghost use Rattle.rules.specs.Answers.{plain, indexed, numbersOf, packed, refusalWord};
+ghost use Rattle.rules.specs.Answers.{plain, withIndex, numbersOf, packed, refusalWord};
 
 fn plain(number: u8) -> Numbers
     ensures { λ r. ⌜ r ≡ plain number ⌝ }
@@ -15,8 +15,8 @@ fn plain(number: u8) -> Numbers
     }
 }
 
-fn indexed(number: u8, i: u16) -> Numbers
-    ensures { λ r. ⌜ r ≡ indexed number i ⌝ }
+fn with_index(number: u8, i: u16) -> Numbers
+    ensures { λ r. ⌜ r ≡ withIndex number i ⌝ }
 {
     Numbers {
         number: number,
@@ -43,12 +43,12 @@ pub fn numbers_of(e: Refusal) -> Numbers
         Refusal::ScriptLength => plain(7),
         Refusal::FileLength => plain(8),
         Refusal::Admission => plain(10),
-        Refusal::MapRecord(i) => indexed(11, i),
+        Refusal::MapRecord(i) => with_index(11, i),
         Refusal::Vectors => plain(12),
-        Refusal::Place(i) => indexed(13, i),
-        Refusal::StoreAddress(i) => indexed(14, i),
-        Refusal::Stack(i) => indexed(15, i),
-        Refusal::Successor(i) => indexed(16, i),
+        Refusal::Place(i) => with_index(13, i),
+        Refusal::StoreAddress(i) => with_index(14, i),
+        Refusal::Stack(i) => with_index(15, i),
+        Refusal::Successor(i) => with_index(16, i),
         Refusal::ListLength => plain(20),
         Refusal::ListRecord => plain(21),
         Refusal::Total => plain(22),

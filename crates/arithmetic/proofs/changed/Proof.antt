@@ -36,11 +36,11 @@ returns-5 : tie.Need-returns-5
 unfolding changed
 returns-5 c =
     let less = c .before .wrapping-sub-u8 in
-    rw (c .before .before .enum-told5 .given .1, c .stepped .ensures, lowered _ _ (less .ok) (less .ensures))
+    rw (c .before .before .enum-told5 .given .1, c .by-one .ensures, lowered _ _ (less .ok) (less .ensures))
 
 returns-6 : tie.Need-returns-6
 unfolding changed
-returns-6 c = rw (c .before .before .enum-told6 .given .1, c .stepped2 .ensures, c .before .wrapping-add-u8 .ensures)
+returns-6 c = rw (c .before .before .enum-told6 .given .1, c .by-one2 .ensures, c .before .wrapping-add-u8 .ensures)
 
 pub changed-spec : {M : Type 1} → statement M
 changed-spec =

@@ -1,5 +1,7 @@
+use mathlib.Core.Path.{_∙_}
 use Rattle.rules.specs.Record.{recordOf}
 use Rattle.rules.specs.Operations.{inside}
+use Rattle.state.proofs.Registers.{holds, makes-p, makes-to}
 use borrow.Author.Needs.{needs}
 use Rattle.internal.proofs.inside.Statement.{statement}
 use Rattle.internal.proofs.inside.Tie as tie
@@ -11,7 +13,7 @@ returns c =
     let at-flags-of = at-with-c .before .before in
     let at-enum-told = at-flags-of .before .before in
     λ s e. rw (at-enum-told .enum-told .given .1)
-    (rw (at-with-c .with-c .ensures, at-flags-of .flags-of .ensures s e) at (c .before .before .set-flags .ensures s e))
+    (rw (at-flags-of .flags-of .ensures ∙ holds s e .p) at (makes-p (at-with-c .with-c .ensures) (c .before .before .set-flags .ensures) s e))
 
 returns-2 : tie.Need-returns-2
 unfolding inside
@@ -20,11 +22,11 @@ returns-2 c =
     let at-flags-of2 = at-with-c2 .before .before in
     let at-enum-told2 = at-flags-of2 .before .before in
     λ s e. rw (at-enum-told2 .enum-told2 .given .1)
-    (rw (at-with-c2 .with-c2 .ensures, at-flags-of2 .flags-of2 .ensures s e) at (c .before .before .set-flags2 .ensures s e))
+    (rw (at-flags-of2 .flags-of2 .ensures ∙ holds s e .p) at (makes-p (at-with-c2 .with-c2 .ensures) (c .before .before .set-flags2 .ensures) s e))
 
 returns-3 : tie.Need-returns-3
 unfolding inside recordOf
-returns-3 c = λ s e. rw (c .before .before .before .before .before .enum-told3 .given .1, c .before .before .to .ensures s e, e)
+returns-3 c = λ s e. rw (c .before .before .before .before .before .enum-told3 .given .1) (makes-to 2 (holds s e .s) (c .before .before .to .ensures) s e)
 
 returns-4 : tie.Need-returns-4
 unfolding inside
@@ -33,11 +35,11 @@ returns-4 c =
     let at-flags-of3 = at-with-i .before .before in
     let at-enum-told4 = at-flags-of3 .before .before in
     λ s e. rw (at-enum-told4 .enum-told4 .given .1)
-    (rw (at-with-i .with-i .ensures, at-flags-of3 .flags-of3 .ensures s e) at (c .before .before .set-flags3 .ensures s e))
+    (rw (at-flags-of3 .flags-of3 .ensures ∙ holds s e .p) at (makes-p (at-with-i .with-i .ensures) (c .before .before .set-flags3 .ensures) s e))
 
 returns-5 : tie.Need-returns-5
 unfolding inside recordOf
-returns-5 c = λ s e. rw (c .before .before .before .before .before .enum-told5 .given .1, c .before .before .to2 .ensures s e, e)
+returns-5 c = λ s e. rw (c .before .before .before .before .before .enum-told5 .given .1) (makes-to 1 (holds s e .y) (c .before .before .to2 .ensures) s e)
 
 returns-6 : tie.Need-returns-6
 unfolding inside
@@ -46,7 +48,7 @@ returns-6 c =
     let at-flags-of4 = at-with-v .before .before in
     let at-enum-told6 = at-flags-of4 .before .before in
     λ s e. rw (at-enum-told6 .enum-told6 .given .1)
-    (rw (at-with-v .with-v .ensures, at-flags-of4 .flags-of4 .ensures s e) at (c .before .before .set-flags4 .ensures s e))
+    (rw (at-flags-of4 .flags-of4 .ensures ∙ holds s e .p) at (makes-p (at-with-v .with-v .ensures) (c .before .before .set-flags4 .ensures) s e))
 
 returns-7 : tie.Need-returns-7
 unfolding inside
@@ -55,7 +57,7 @@ returns-7 c =
     let at-flags-of5 = at-with-d .before .before in
     let at-enum-told7 = at-flags-of5 .before .before in
     λ s e. rw (at-enum-told7 .enum-told7 .given .1)
-    (rw (at-with-d .with-d .ensures, at-flags-of5 .flags-of5 .ensures s e) at (c .before .before .set-flags5 .ensures s e))
+    (rw (at-flags-of5 .flags-of5 .ensures ∙ holds s e .p) at (makes-p (at-with-d .with-d .ensures) (c .before .before .set-flags5 .ensures) s e))
 
 returns-8 : tie.Need-returns-8
 unfolding inside
@@ -64,22 +66,22 @@ returns-8 c =
     let at-flags-of6 = at-with-d2 .before .before in
     let at-enum-told8 = at-flags-of6 .before .before in
     λ s e. rw (at-enum-told8 .enum-told8 .given .1)
-    (rw (at-with-d2 .with-d2 .ensures, at-flags-of6 .flags-of6 .ensures s e) at (c .before .before .set-flags6 .ensures s e))
+    (rw (at-flags-of6 .flags-of6 .ensures ∙ holds s e .p) at (makes-p (at-with-d2 .with-d2 .ensures) (c .before .before .set-flags6 .ensures) s e))
 
 returns-9 : tie.Need-returns-9
 unfolding inside recordOf
-returns-9 c = λ s e. rw (c .before .before .before .before .before .enum-told9 .given .1, c .before .before .to3 .ensures s e, e)
+returns-9 c = λ s e. rw (c .before .before .before .before .before .enum-told9 .given .1) (makes-to 1 (holds s e .x) (c .before .before .to3 .ensures) s e)
 
 returns-10 : tie.Need-returns-10
 unfolding inside recordOf
-returns-10 c = λ s e. rw (c .before .before .before .before .before .enum-told10 .given .1, c .before .before .to4 .ensures s e, e)
+returns-10 c = λ s e. rw (c .before .before .before .before .before .enum-told10 .given .1) (makes-to 2 (holds s e .a) (c .before .before .to4 .ensures) s e)
 
 returns-11 : tie.Need-returns-11
 unfolding inside recordOf
 returns-11 c =
-    let at-previous = c .before .before .before in
-    let at-enum-told11 = at-previous .before .before .before in
-    λ s e. rw (at-enum-told11 .enum-told11 .given .1, c .before .before .to5 .ensures s e, at-previous .previous .ensures, e)
+    let at-one-less = c .before .before .before in
+    let at-enum-told11 = at-one-less .before .before .before in
+    λ s e. rw (at-enum-told11 .enum-told11 .given .1) (rw (holds s e .x) at (makes-to 2 (at-one-less .one-less .ensures) (c .before .before .to5 .ensures) s e))
 
 returns-12 : tie.Need-returns-12
 unfolding inside
@@ -88,27 +90,27 @@ returns-12 c = λ s e. rw (c .enum-told12 .given .1) e
 returns-13 : tie.Need-returns-13
 unfolding inside recordOf
 returns-13 c =
-    let at-previous2 = c .before .before .before in
-    let at-enum-told13 = at-previous2 .before .before .before in
-    λ s e. rw (at-enum-told13 .enum-told13 .given .1, c .before .before .to6 .ensures s e, at-previous2 .previous2 .ensures, e)
+    let at-one-less2 = c .before .before .before in
+    let at-enum-told13 = at-one-less2 .before .before .before in
+    λ s e. rw (at-enum-told13 .enum-told13 .given .1) (rw (holds s e .y) at (makes-to 3 (at-one-less2 .one-less2 .ensures) (c .before .before .to6 .ensures) s e))
 
 returns-14 : tie.Need-returns-14
 unfolding inside recordOf
-returns-14 c = λ s e. rw (c .before .before .before .before .before .enum-told14 .given .1, c .before .before .to7 .ensures s e, e)
+returns-14 c = λ s e. rw (c .before .before .before .before .before .enum-told14 .given .1) (makes-to 3 (holds s e .a) (c .before .before .to7 .ensures) s e)
 
 returns-15 : tie.Need-returns-15
 unfolding inside recordOf
 returns-15 c =
-    let at-next = c .before .before .before in
-    let at-enum-told15 = at-next .before .before .before in
-    λ s e. rw (at-enum-told15 .enum-told15 .given .1, c .before .before .to8 .ensures s e, at-next .next .ensures, e)
+    let at-one-more = c .before .before .before in
+    let at-enum-told15 = at-one-more .before .before .before in
+    λ s e. rw (at-enum-told15 .enum-told15 .given .1) (rw (holds s e .y) at (makes-to 3 (at-one-more .one-more .ensures) (c .before .before .to8 .ensures) s e))
 
 returns-16 : tie.Need-returns-16
 unfolding inside recordOf
 returns-16 c =
-    let at-next2 = c .before .before .before in
-    let at-enum-told16 = at-next2 .before .before .before in
-    λ s e. rw (at-enum-told16 .enum-told16 .given .1, c .before .before .to9 .ensures s e, at-next2 .next2 .ensures, e)
+    let at-one-more2 = c .before .before .before in
+    let at-enum-told16 = at-one-more2 .before .before .before in
+    λ s e. rw (at-enum-told16 .enum-told16 .given .1) (rw (holds s e .x) at (makes-to 2 (at-one-more2 .one-more2 .ensures) (c .before .before .to9 .ensures) s e))
 
 pub inside-spec : {M : Type 1} → statement M
 inside-spec =

@@ -1,8 +1,9 @@
+use mathlib.Core.Path.{_∙_}
 use Rattle.laws.proofs.Goes.{do-does}
 use Rattle.rules.specs.Cycles.{_>>=_}
 use Rattle.rules.specs.Interrupts.{interrupt}
+use Rattle.state.proofs.Registers.{holds}
 use borrow.Author.Needs.{needs}
-use Rattle.state.proofs.Registers.{s-of}
 use Rattle.interrupts.proofs.interrupt.Statement.{statement}
 use Rattle.interrupts.proofs.interrupt.Tie as tie
 
@@ -17,9 +18,9 @@ returns c =
     let at-flags-of = at-byte-of .before in
     let at-pc-of = at-flags-of .before .before .before in
     λ s h.
-    let pc = at-pc-of .pc-of .ensures s (h .bytes) in
-    let sp = s-of s (h .bytes) in
-    let p = rw (at-flags-of .flags-of .ensures s (h .bytes)) at (at-byte-of .byte-of .ensures) in
+    let pc = at-pc-of .pc-of .ensures ∙ holds s (h .bytes) .pc in
+    let sp = holds s (h .bytes) .s in
+    let p = rw (at-flags-of .flags-of .ensures ∙ holds s (h .bytes) .p) at (at-byte-of .byte-of .ensures) in
     do-does _ (rw pc at (at-two-reads .two-reads .ensures s h))
     (do-does _ (rw (pc, sp, p) at (at-push-three .push-three .ensures s h)) (at-enter .enter .ensures s h))
 

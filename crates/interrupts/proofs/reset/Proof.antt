@@ -1,8 +1,9 @@
+use mathlib.Core.Path.{_∙_}
 use Rattle.laws.proofs.Goes.{do-does}
 use Rattle.rules.specs.Cycles.{_>>=_}
 use Rattle.rules.specs.Interrupts.{reset}
+use Rattle.state.proofs.Registers.{holds}
 use borrow.Author.Needs.{needs}
-use Rattle.state.proofs.Registers.{s-of}
 use Rattle.interrupts.proofs.reset.Statement.{statement}
 use Rattle.interrupts.proofs.reset.Tie as tie
 
@@ -14,8 +15,8 @@ returns c =
     let at-two-reads = at-three-reads .before .before .before .before .before in
     let at-pc-of = at-two-reads .before .before .before .before in
     λ s h.
-    let pc = at-pc-of .pc-of .ensures s (h .bytes) in
-    let sp = s-of s (h .bytes) in
+    let pc = at-pc-of .pc-of .ensures ∙ holds s (h .bytes) .pc in
+    let sp = holds s (h .bytes) .s in
     do-does _ (rw pc at (at-two-reads .two-reads .ensures s h))
     (do-does _ (rw sp at (at-three-reads .three-reads .ensures s h)) (at-enter .enter .ensures s h))
 

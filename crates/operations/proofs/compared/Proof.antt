@@ -1,3 +1,5 @@
+use mathlib.Core.Path.{_∙_}
+use Rattle.state.proofs.Registers.{holds, makes-p}
 use borrow.Author.Needs.{needs}
 use Rattle.operations.proofs.compared.Statement.{statement}
 use Rattle.operations.proofs.compared.Tie as tie
@@ -6,7 +8,7 @@ returns : tie.Need-returns
 returns c =
     let at-compare = c .before .before .before in
     let at-flags-of = at-compare .before .before in
-    λ s e. rw (at-compare .compare .ensures, at-flags-of .flags-of .ensures s e) at (c .before .before .set-flags .ensures s e)
+    λ s e. rw (at-flags-of .flags-of .ensures ∙ holds s e .p) at (makes-p (at-compare .compare .ensures) (c .before .before .set-flags .ensures) s e)
 
 pub compared-spec : {M : Type 1} → statement M
 compared-spec =

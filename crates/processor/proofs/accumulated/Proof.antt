@@ -1,4 +1,5 @@
-use Rattle.state.proofs.Registers.{a-of}
+use mathlib.Core.Path.{_∙_}
+use Rattle.state.proofs.Registers.{holds, makes-result}
 use borrow.Author.Needs.{needs}
 use Rattle.processor.proofs.accumulated.Statement.{statement}
 use Rattle.processor.proofs.accumulated.Tie as tie
@@ -6,8 +7,8 @@ use Rattle.processor.proofs.accumulated.Tie as tie
 returns : tie.Need-returns
 returns c = λ s e.
     let at-changed = c .before .before .before in
-    let flags = at-changed .before .before .flags-of .ensures s e in
-    rw (at-changed .changed .ensures, flags, a-of s e) at (c .before .before .to-result .ensures s e)
+    let flags = at-changed .before .before .flags-of .ensures ∙ holds s e .p in
+    rw (flags, holds s e .a) at (makes-result (at-changed .changed .ensures) (c .before .before .to-result .ensures) s e)
 
 pub accumulated-spec : {M : Type 1} → statement M
 accumulated-spec =

@@ -1,9 +1,9 @@
-use Rattle.state.proofs.Registers.{p-of}
 use native.Mathlib.Omega.{arith}
 use Rattle.laws.proofs.Goes.{does, ended, then-read}
 use Rattle.rules.specs.Cycles.{execution, _>>=_}
 use Rattle.rules.specs.Operations.{perform, branchTo}
 use borrow.Author.Tests.{eq-eqb, ne-eqb}
+use Rattle.state.proofs.Registers.{holds, makes-pc}
 use borrow.Author.Needs.{needs}
 use Rattle.processor.proofs.branch.Statement.{statement}
 use Rattle.processor.proofs.branch.Tie as tie
@@ -20,11 +20,11 @@ returns c =
       omega arith,
       λ s h p.
           let next = rw p at (at-wrapping-add-u16 .wrapping-add-u16 .ensures) in
-          let yes = rw (at-taken .taken .ensures, p-of s (h .bytes)) at (at-if1 .if1 .taken) in
+          let yes = rw (at-taken .taken .ensures, holds s (h .bytes) .p) at (at-if1 .if1 .taken) in
           let to = rw next at (at-target .target .ensures) in
           let near = rw (to, next) at (at-if2 .if2 .taken) in
           let first = rw next at (at-read .read .ensures s execution h) in
-          rw (yes, eq-eqb _ _ near) (does s (rw to at (c .before .before .set-pc .ensures s (h .bytes))) (then-read _ first ended)),
+          rw (yes, eq-eqb _ _ near) (does s (makes-pc to (c .before .before .set-pc .ensures) s (h .bytes)) (then-read _ first ended)),
     )
 
 returns-2 : tie.Need-returns-2
@@ -40,13 +40,13 @@ returns-2 c =
       omega arith,
       λ s h p.
           let next = rw p at (at-wrapping-add-u16 .wrapping-add-u16 .ensures) in
-          let yes = rw (at-taken .taken .ensures, p-of s (h .bytes)) at (at-if1 .if1 .taken) in
+          let yes = rw (at-taken .taken .ensures, holds s (h .bytes) .p) at (at-if1 .if1 .taken) in
           let to = rw next at (at-target .target .ensures) in
           let far = rw (to, next) at (at-if2 .if2 .left) in
           let first = rw next at (at-read .read .ensures s execution h) in
           let second = rw (to, next) at (at-read2 .read2 .ensures s execution h) in
           rw (yes, ne-eqb _ _ far)
-          (does s (rw to at (c .before .before .set-pc2 .ensures s (h .bytes))) (then-read _ first (then-read _ second ended))),
+          (does s (makes-pc to (c .before .before .set-pc2 .ensures) s (h .bytes)) (then-read _ first (then-read _ second ended))),
     )
 
 returns-3 : tie.Need-returns-3
@@ -57,9 +57,9 @@ returns-3 c =
     let at-wrapping-add-u16 = at-taken .before .before in (
       omega arith,
       λ s h p.
-          let no = rw (at-taken .taken .ensures, p-of s (h .bytes)) at (at-if1 .if1 .left) in
+          let no = rw (at-taken .taken .ensures, holds s (h .bytes) .p) at (at-if1 .if1 .left) in
           let next = rw p at (at-wrapping-add-u16 .wrapping-add-u16 .ensures) in
-          rw no (does s (rw next at (c .before .before .set-pc3 .ensures s (h .bytes))) ended),
+          rw no (does s (makes-pc next (c .before .before .set-pc3 .ensures) s (h .bytes)) ended),
     )
 
 pub branch-spec : {M : Type 1} → statement M

@@ -1,8 +1,9 @@
+use mathlib.Core.Path.{_∙_}
 use Rattle.processor.proofs.Fetches.{twice}
-use Rattle.state.proofs.Registers.{s-of}
 use Rattle.rules.specs.Operations.{brk, enter}
 use Rattle.rules.specs.Cycles.{_>>=_}
 use Rattle.laws.proofs.Goes.{do-does}
+use Rattle.state.proofs.Registers.{holds}
 use borrow.Author.Needs.{needs}
 use Rattle.processor.proofs.brk.Statement.{statement}
 use Rattle.processor.proofs.brk.Tie as tie
@@ -17,9 +18,9 @@ returns c =
     let at-flags-of = at-with-bit-4 .before in
     let at-wrapping-add-u16 = at-flags-of .before .before .before in
     λ s h q.
-    let sp = s-of s (h .bytes) in
+    let sp = holds s (h .bytes) .s in
     let back = rw q at (at-wrapping-add-u16 .wrapping-add-u16 .ensures) in
-    let p = rw (at-flags-of .flags-of .ensures s (h .bytes)) at (at-with-bit-4 .with-bit-4 .ensures) in
+    let p = rw (at-flags-of .flags-of .ensures ∙ holds s (h .bytes) .p) at (at-with-bit-4 .with-bit-4 .ensures) in
     let pushed = rw (back, sp, p) at (at-push-three .push-three .ensures s h) in
     rw (twice (s .cpu .pc)) (do-does _ pushed (at-enter .enter .ensures s h))
 

@@ -1,3 +1,5 @@
+use mathlib.Core.Path.{_∙_}
+use Rattle.state.proofs.Registers.{holds, makes-p}
 use borrow.Author.Needs.{needs}
 use Rattle.processor.proofs.cli.Statement.{statement}
 use Rattle.processor.proofs.cli.Tie as tie
@@ -5,8 +7,8 @@ use Rattle.processor.proofs.cli.Tie as tie
 returns : tie.Need-returns
 returns c = λ s e.
     let at-with-i = c .before .before .before in
-    let flags = at-with-i .before .before .flags-of .ensures s e in
-    rw (at-with-i .with-i .ensures, flags) at (c .before .before .set-flags .ensures s e)
+    let flags = at-with-i .before .before .flags-of .ensures ∙ holds s e .p in
+    rw flags at (makes-p (at-with-i .with-i .ensures) (c .before .before .set-flags .ensures) s e)
 
 pub cli-spec : {M : Type 1} → statement M
 cli-spec =

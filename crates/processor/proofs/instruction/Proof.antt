@@ -7,6 +7,7 @@ use Rattle.rules.specs.Opcodes.{decode, instructionOf}
 use Rattle.processor.specs.Rest.{rest}
 use Rattle.processor.proofs.Fetches.{short-is, high-is, fetched-first, alike}
 use Rattle.processor.proofs.Executes.{defined-is, refused, executed, some}
+use Rattle.state.proofs.Registers.{holds}
 use borrow.Author.Needs.{needs}
 use Rattle.processor.proofs.instruction.Statement.{statement}
 use Rattle.processor.proofs.instruction.Tie as tie
@@ -21,7 +22,7 @@ returns c =
       λ s b.
           let t = at-wire .wire .ensures .1 s (b .bytes) (b .sound) (b .banked) (b .pins) (b .banks) in
           let f = at-fetch .fetch .result in
-          let found = at-fetch .fetch .ensures s t (at-pc-of .pc-of .ensures s (b .bytes)) in
+          let found = at-fetch .fetch .ensures s t (at-pc-of .pc-of .ensures ∙ holds s (b .bytes) .pc) in
           let is = sym (c .enum-told .given .1) ∙ at-decode .decode .ensures in
           refused (f .opcode) (f .low) (f .high) (found .opcode) (omega (arith, at-fetch .fetch .ok)) is (b .bytes),
     )
@@ -60,7 +61,7 @@ returns-2 c =
       at-perform .perform .ensures .0,
       λ s b.
           let t = at-wire .wire .ensures .1 s (b .bytes) (b .sound) (b .banked) (b .pins) (b .banks) in
-          let pc = at-pc-of .pc-of .ensures s (b .bytes) in
+          let pc = at-pc-of .pc-of .ensures ∙ holds s (b .bytes) .pc in
           let f = at-fetch .fetch .result in
           let found = at-fetch .fetch .ensures s t pc in
           let fits : f .opcode < 256 = omega (arith, at-fetch .fetch .ok) in

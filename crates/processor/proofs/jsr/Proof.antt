@@ -1,8 +1,8 @@
-use Rattle.state.proofs.Registers.{s-of}
 use Rattle.rules.specs.Operations.{jsr}
 use Rattle.rules.specs.Cycles.{execution, _>>=_}
 use Rattle.laws.proofs.Goes.{does, ended, then-read, then-do}
 use mathlib.Core.Path.{_∙_}
+use Rattle.state.proofs.Registers.{holds, makes-pc, makes-s}
 use borrow.Author.Needs.{needs}
 use Rattle.processor.proofs.jsr.Statement.{statement}
 use Rattle.processor.proofs.jsr.Tie as tie
@@ -32,9 +32,9 @@ returns c =
     let at-wrapping-add-u16 = at-stack .before .before .before .before in
     λ s h p.
     let two = rw p at (at-wrapping-add-u16 .wrapping-add-u16 .ensures) in
-    let sp = s-of s (h .bytes) in
-    let lowered = at-set-s .set-s .ensures s (h .bytes) in
-    does s (rw (at-join .join .ensures, at-down .down .ensures, sp) at (c .before .before .set-pc .ensures _ lowered))
+    let sp = holds s (h .bytes) .s in
+    let lowered = makes-s (at-down .down .ensures) (at-set-s .set-s .ensures) s (h .bytes) in
+    does s (rw sp at (makes-pc (at-join .join .ensures) (c .before .before .set-pc .ensures) _ lowered))
     (then-read _ (rw (at-stack .stack .ensures, sp) at (at-read .read .ensures s execution h))
     (then-do _ (rw (two, sp) at (at-push-pc .push-pc .ensures s h))
     (then-read _ (rw two at (at-read2 .read2 .ensures s execution h)) ended)))

@@ -6,7 +6,7 @@ use Rattle.rules.specs.declared.Instruction.{Instruction}
 use Rattle.rules.proofs.Instruction.{the-type}
 use Rattle.processor.proofs.Lays.{is-store, is-change, three-left, lays-only}
 use Rattle.processor.proofs.Fetches.{reached, stands-past}
-use Rattle.processor.specs.Start.{fetchedOf}
+use Rattle.laws.specs.Sizes.{modeSize}
 use Rattle.processor.specs.Rest.{rest}
 use Rattle.rules.specs.Operations.{perform}
 use Rattle.rules.specs.Cycles.{_>>=_}
@@ -37,7 +37,7 @@ returns c =
       λ s h.
           let m = start .args .m in
           let g = at-place .place .ensures .1 s h in
-          let t = stands-past (fetchedOf m) h (g .bytes) in
+          let t = stands-past (modeSize m) h (g .bytes) in
           rw (is-store (start .pre .0 .0) (at-i .i .given .1)) (reached m _ g (at-store .store .ensures _ t)),
     )
 
@@ -55,7 +55,7 @@ returns-2 c =
       λ s h.
           let m = start .args .m in
           let g = at-place .place .ensures .1 s h in
-          let t = stands-past (fetchedOf m) h (g .bytes) in
+          let t = stands-past (modeSize m) h (g .bytes) in
           rw is (reached m _ g (at-change .change .ensures _ t)),
     )
 

@@ -8,6 +8,7 @@ use Rattle.rules.specs.Operations.{perform}
 use Rattle.laws.proofs.Goes.{does, ended}
 use mathlib.Core.Bool.{false≢true}
 use native.Mathlib.Omega.{arith}
+use Rattle.state.proofs.Registers.{makes-pc}
 use borrow.Author.Needs.{needs}
 use Rattle.processor.proofs.perform.Statement.{statement}
 use Rattle.processor.proofs.perform.Tie as tie
@@ -83,7 +84,7 @@ returns-6 c =
       omega arith,
       λ s h.
           let o = at-third .third .ensures s _ (rw is at h) in
-          rw is (opened-does 3 o (does _ (rw (at-join .join .ensures) at (at-set-pc .set-pc .ensures _ (o .bytes))) ended)),
+          rw is (opened-does 3 o (does _ (makes-pc (at-join .join .ensures) (at-set-pc .set-pc .ensures) _ (o .bytes)) ended)),
     )
 
 returns-7 : tie.Need-returns-7

@@ -1,8 +1,9 @@
 use Rattle.processor.proofs.Back.{back}
-use mathlib.Core.Path.{_∙_}
+use mathlib.Core.Path.{refl, _∙_}
 use Rattle.laws.proofs.Goes.{ended, then-write, counted}
 use Rattle.rules.specs.Cycles.{execution, _>>=_}
 use native.Mathlib.Omega.{arith}
+use Rattle.state.proofs.Registers.{holds, makes-p}
 use borrow.Author.Needs.{needs}
 use Rattle.processor.proofs.rewrite.Statement.{statement}
 use Rattle.processor.proofs.rewrite.Tie as tie
@@ -27,14 +28,14 @@ returns c =
     let at-changed = at-write .before .before .before .before in
     let at-flags-of = at-changed .before in
     λ s h e.
-    let made = rw (at-flags-of .flags-of .ensures s (h .bytes)) at (at-changed .changed .ensures) in
+    let made = rw (at-flags-of .flags-of .ensures ∙ holds s (h .bytes) .p) at (at-changed .changed .ensures) in
     let one = at-write .write .ensures s execution h in
     let again = at-write2 .write2 .ensures _ execution (back h e one) in
     let two = rw made at again in
     record {
       cpu = _;
       bus = _;
-      bytes = rw made at (c .before .before .set-flags .ensures _ (again .bytes));
+      bytes = rw made at (makes-p {f = at-changed .changed .result .flags} refl (c .before .before .set-flags .ensures) _ (again .bytes));
       goes = then-write _ (one .goes) (then-write _ (two .goes) (counted ended (omega arith)));
     }
 

@@ -1,11 +1,11 @@
-use mathlib.Core.Path.{_∙_}
+use mathlib.Core.Path.{refl, _∙_}
 use mathlib.Core.Bool.{true}
 use Rattle.laws.proofs.Goes.{does, ended, then-call}
 use Rattle.rules.specs.Cycles.{done, _>>=_}
 use Rattle.rules.specs.Flags.{withI}
 use Rattle.rules.specs.Operations.{enter, down, withPc, withP, withS}
+use Rattle.state.proofs.Registers.{holds, makes-pc, makes-s, makes-p}
 use borrow.Author.Needs.{needs}
-use Rattle.state.proofs.Registers.{s-of}
 use Rattle.sequence.proofs.enter.Statement.{statement}
 use Rattle.sequence.proofs.enter.Tie as tie
 
@@ -28,11 +28,12 @@ returns c =
     let at-with-i = at-word-at .before .before .before in
     let at-flags-of = at-with-i .before in
     λ s h.
-    let sp = s-of s (h .bytes) in
-    let lowered = at-set-s .set-s .ensures _ (at-set-flags .set-flags .ensures s (h .bytes)) in
+    let sp = holds s (h .bytes) .s in
+    let flagged = makes-p (at-with-i .with-i .ensures) (at-set-flags .set-flags .ensures) s (h .bytes) in
+    let lowered = makes-s (at-down .down .ensures) (at-set-s .set-s .ensures) _ flagged in
     does s
-    (rw (at-down .down .ensures, at-with-i .with-i .ensures, at-flags-of .flags-of .ensures s (h .bytes), sp)
-    at (c .before .before .set-pc .ensures _ lowered))
+    (rw (at-flags-of .flags-of .ensures ∙ holds s (h .bytes) .p, sp)
+    at (makes-pc {pc = at-word-at .word-at .result} refl (c .before .before .set-pc .ensures) _ lowered))
     (then-call (λ a. done (withPc a (withP (withI true (s .cpu .p)) (withS (down 3 (s .cpu .s)) (s .cpu)))))
     (at-word-at .word-at .ensures s h)
     ended)

@@ -1,5 +1,6 @@
+use mathlib.Core.Path.{_∙_}
 use native.Mathlib.Omega.{arith}
-use Rattle.state.proofs.Registers.{a-of}
+use Rattle.state.proofs.Registers.{holds}
 use borrow.Author.Needs.{needs}
 use Rattle.stacking.proofs.at_stack.Statement.{statement}
 use Rattle.stacking.proofs.at_stack.Tie as tie
@@ -11,7 +12,7 @@ returns c =
     let at-flags-of = at-with-bit-4 .before in
     let told = at-flags-of .before .before .enum-told .given .1 in
     let bit-4 = at-with-bit-4 .with-bit-4 .ensures in
-    (omega arith, λ s h. rw told (rw (bit-4, at-flags-of .flags-of .ensures s (h .bytes)) at (at-push .push .ensures s h)))
+    (omega arith, λ s h. rw told (rw (bit-4, at-flags-of .flags-of .ensures ∙ holds s (h .bytes) .p) at (at-push .push .ensures s h)))
 
 returns-2 : tie.Need-returns-2
 returns-2 c =
@@ -23,7 +24,7 @@ returns-3 : tie.Need-returns-3
 returns-3 c =
     let at-push2 = c .before .before .before .before .before .before in
     let at-enum-told3 = at-push2 .before .before .before .before .before in
-    (omega arith, λ s h. rw (at-enum-told3 .enum-told3 .given .1) (rw (a-of s (h .bytes)) at (at-push2 .push2 .ensures s h)))
+    (omega arith, λ s h. rw (at-enum-told3 .enum-told3 .given .1) (rw (holds s (h .bytes) .a) at (at-push2 .push2 .ensures s h)))
 
 returns-4 : tie.Need-returns-4
 returns-4 c =

@@ -1,12 +1,12 @@
 use mathlib.Core.Path.{_∙_}
-use Rattle.reads.specs.Words.{wordAt}
+use Rattle.rules.specs.Addressing.{wordAt}
 use Rattle.rules.specs.Operations.{stack, rti, withPc, withP, withS}
 use Rattle.laws.proofs.Goes.{does, ended, then-call}
 use Rattle.rules.specs.Cycles.{done, _>>=_}
 use Rattle.rules.specs.Basics.{sum8}
 use Rattle.rules.specs.Flags.{flagsOf}
+use Rattle.state.proofs.Registers.{holds, makes-p}
 use borrow.Author.Needs.{needs}
-use Rattle.state.proofs.Registers.{s-of}
 use Rattle.stacking.proofs.rti.Statement.{statement}
 use Rattle.stacking.proofs.rti.Tie as tie
 
@@ -32,9 +32,9 @@ returns c =
     let at-stack = at-up2 .before in
     let at-up = at-stack .before in
     λ s h.
-    let sp = s-of s (h .bytes) in
-    let flagged = at-set-flags .set-flags .ensures s (h .bytes) in
-    does s (rw (at-up3 .up3 .ensures, at-flags-of .flags-of .ensures, sp) at (c .before .before .set-s-pc .ensures _ flagged))
+    let sp = holds s (h .bytes) .s in
+    let flagged = makes-p (at-flags-of .flags-of .ensures) (at-set-flags .set-flags .ensures) s (h .bytes) in
+    does s (rw (at-up3 .up3 .ensures, sp) at (c .before .before .set-s-pc .ensures _ flagged))
     (then-call (λ p. wordAt (stack (sum8 (s .cpu .s) 2)) (stack (sum8 (s .cpu .s) 3)) >>=
     λ a. done (withPc a (withP (flagsOf p) (withS (sum8 (s .cpu .s) 3) (s .cpu)))))
     (rw sp at (at-pulled .pulled .ensures s h))

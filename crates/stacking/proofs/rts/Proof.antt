@@ -2,8 +2,8 @@ use Rattle.rules.specs.Cycles.{done, read, execution, _>>=_}
 use Rattle.rules.specs.Basics.{sum8, sum16}
 use Rattle.rules.specs.Operations.{withS, withPc, rts}
 use Rattle.laws.proofs.Goes.{does, ended, then-read, then-call}
+use Rattle.state.proofs.Registers.{holds}
 use borrow.Author.Needs.{needs}
-use Rattle.state.proofs.Registers.{s-of}
 use Rattle.stacking.proofs.rts.Statement.{statement}
 use Rattle.stacking.proofs.rts.Tie as tie
 
@@ -17,7 +17,7 @@ returns c =
     let at-read = at-word-above .before .before .before .before .before in
     let at-stack = at-read .before in
     λ s h.
-    let sp = s-of s (h .bytes) in
+    let sp = holds s (h .bytes) .s in
     does s
     (rw (at-wrapping-add-u16 .wrapping-add-u16 .ensures, at-up .up .ensures, sp) at (c .before .before .set-s-pc .ensures s (h .bytes)))
     (then-read _ (rw (at-stack .stack .ensures, sp) at (at-read .read .ensures s execution h))

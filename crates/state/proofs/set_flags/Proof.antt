@@ -1,11 +1,9 @@
-use Rattle.rules.specs.Record.{recordOf}
 use borrow.Author.Needs.{needs}
 use Rattle.state.proofs.set_flags.Statement.{statement}
 use Rattle.state.proofs.set_flags.Tie as tie
 
 returns : tie.Need-returns
-unfolding recordOf
-returns c = λ s e. rw (c .byte-of .ensures, e)
+returns c = rw (c .byte-of .ensures)
 
 pub set-flags-spec : {M : Type 1} → statement M
 set-flags-spec = tie.close (tie.spec (λ c κs. search needs) (λ c. search needs) (λ c. search needs) returns)

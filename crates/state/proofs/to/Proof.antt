@@ -6,7 +6,7 @@ returns : tie.Need-returns
 returns c =
     let at-nzc = c .before .before .before in
     let at-flags-of = at-nzc .before .before in
-    λ s e. rw (c .before .before .set-flags .ensures s e, at-nzc .nzc .ensures, at-flags-of .flags-of .ensures s e)
+    rw (c .before .before .set-flags .ensures, at-nzc .nzc .ensures, at-flags-of .flags-of .ensures)
 
 pub to-spec : {M : Type 1} → statement M
 to-spec =

@@ -1,4 +1,6 @@
+use mathlib.Core.Path.{_∙_}
 use Rattle.rules.specs.Cycles.{execution}
+use Rattle.state.proofs.Registers.{holds}
 use borrow.Author.Needs.{needs}
 use Rattle.step.proofs.undefined.Statement.{statement}
 use Rattle.step.proofs.undefined.Tie as tie
@@ -7,7 +9,7 @@ returns : tie.Need-returns
 returns c = λ s b.
     let at-wire = c .before .before .before in
     let t = at-wire .wire .ensures .1 s (b .bytes) (b .sound) (b .banked) (b .pins) (b .banks) in
-    let pc = c .before .before .pc-of .ensures s (b .bytes) in
+    let pc = c .before .before .pc-of .ensures ∙ holds s (b .bytes) .pc in
     rw (pc, rw pc at (c .before .look .ensures s execution t)) at (c .refusal-word .ensures)
 
 pub undefined-spec : {M : Type 1} → statement M

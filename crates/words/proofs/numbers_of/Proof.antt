@@ -30,22 +30,22 @@ returns-9 : tie.Need-returns-9
 returns-9 c = rw (c .before .enum-told8 .given .1) (c .plain8 .ensures)
 
 returns-10 : tie.Need-returns-10
-returns-10 c = rw (c .before .before .e2 .given .1) (c .indexed .ensures)
+returns-10 c = rw (c .before .before .e2 .given .1) (c .with-index .ensures)
 
 returns-11 : tie.Need-returns-11
 returns-11 c = rw (c .before .enum-told9 .given .1) (c .plain9 .ensures)
 
 returns-12 : tie.Need-returns-12
-returns-12 c = rw (c .before .before .e3 .given .1) (c .indexed2 .ensures)
+returns-12 c = rw (c .before .before .e3 .given .1) (c .with-index2 .ensures)
 
 returns-13 : tie.Need-returns-13
-returns-13 c = rw (c .before .before .e4 .given .1) (c .indexed3 .ensures)
+returns-13 c = rw (c .before .before .e4 .given .1) (c .with-index3 .ensures)
 
 returns-14 : tie.Need-returns-14
-returns-14 c = rw (c .before .before .e5 .given .1) (c .indexed4 .ensures)
+returns-14 c = rw (c .before .before .e5 .given .1) (c .with-index4 .ensures)
 
 returns-15 : tie.Need-returns-15
-returns-15 c = rw (c .before .before .e6 .given .1) (c .indexed5 .ensures)
+returns-15 c = rw (c .before .before .e6 .given .1) (c .with-index5 .ensures)
 
 returns-16 : tie.Need-returns-16
 returns-16 c = rw (c .before .enum-told10 .given .1) (c .plain10 .ensures)
