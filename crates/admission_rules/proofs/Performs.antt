@@ -18,7 +18,8 @@ use Rattle.rules.specs.declared.Internal.{Internal}
 use Rattle.rules.specs.declared.Condition.{Condition}
 use Rattle.rules.specs.declared.Stacking.the-variants.{Php, Plp, Pha, Pla, Rts, Rti}
 use Rattle.rules.specs.declared.Instruction.{Instruction}
-use Rattle.rules.specs.declared.Instruction.the-variants.{Read, Store, Change, Accumulator, Implied, AtStack, Branch, Jump, JumpIndirect, Jsr, Brk, Txs, Cli, Undefined}
+use Rattle.rules.specs.declared.Instruction.the-variants.{Read, Store, Change, Accumulator, Implied, AtStack, Branch, Jump, JumpIndirect}
+use Rattle.rules.specs.declared.Instruction.the-variants.{Jsr, Brk, Txs, Cli, Undefined}
 use Rattle.rules.specs.declared.Refusal.the-variants.{Stack}
 use Rattle.rules.specs.Basics.{if_then_else_, at, address, sum8, sum16}
 use Rattle.rules.specs.Cycles.{Cycles, _>>=_}
@@ -30,7 +31,8 @@ use Rattle.rules.specs.Bus.{isProtected}
 use Rattle.admission_rules.specs.declared.Mark.{Mark}
 use Rattle.admission_rules.specs.declared.Rules.{Rules}
 use Rattle.admission_rules.specs.declared.Rules.the-variants as rules
-use Rattle.admission_rules.specs.Admission.{markAt, main, routine, handler, reached, testsOf, one, goesOn, goesUp, goesDown, isAtZero, rulesOf}
+use Rattle.admission_rules.specs.Admission.{markAt, main, routine, handler, reached, testsOf, one, goesOn, goesUp, goesDown}
+use Rattle.admission_rules.specs.Admission.{isAtZero, rulesOf}
 use Rattle.admission_rules.specs.Safety.{Stacked, Effect, none, pushes, effectOf, stackedAfter, pushesOf}
 use Rattle.laws.proofs.Tests.{Hold, if-case, and-left, and-right}
 use Rattle.admission_rules.proofs.Stacks.{Stands, Leads, starts, alone, stays, pushes-one, pulls-one, calls, returns, goes-back}
@@ -38,7 +40,8 @@ use Rattle.admission_rules.proofs.Marks.{Admitted, leads-to}
 use Rattle.admission_rules.proofs.Ends.{End, ends}
 use Rattle.admission_rules.proofs.Calm.{OffPage, Calm, calm-bind, set-byte, calmly}
 use Rattle.admission_rules.proofs.Places.{Bytes, Small, load-calm, unbroken, place-calm}
-use Rattle.admission_rules.proofs.Plain.{To, On, used-on, inside-on, same-on, changed-on, changed-good, accumulator-on, register-byte, p-byte}
+use Rattle.admission_rules.proofs.Plain.{To, On, used-on, inside-on, same-on, changed-on, changed-good, accumulator-on}
+use Rattle.admission_rules.proofs.Plain.{register-byte, p-byte}
 use Rattle.admission_rules.proofs.Shapes.{gives, small}
 
 module _ (m₀ : List ℕ) (c : ℕ) (map : List ℕ) (ad : Admitted m₀ c map) where

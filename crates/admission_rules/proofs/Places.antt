@@ -9,7 +9,8 @@ use borrow.Author.Tests.{le-leb}
 use lib.Dec.{leb}
 use Rattle.rules.specs.declared.Cpu.{Cpu}
 use Rattle.rules.specs.declared.Mode.{Mode}
-use Rattle.rules.specs.declared.Mode.the-variants.{Immediate, Zero, ZeroX, ZeroY, Absolute, AbsoluteX, AbsoluteY, IndirectX, IndirectY, IndirectBankY}
+use Rattle.rules.specs.declared.Mode.the-variants.{Immediate, Zero, ZeroX, ZeroY, Absolute, AbsoluteX, AbsoluteY, IndirectX, IndirectY}
+use Rattle.rules.specs.declared.Mode.the-variants.{IndirectBankY}
 use Rattle.rules.specs.declared.Refusal.{Refusal}
 use Rattle.rules.specs.declared.Refusal.the-variants.{StoreAddress}
 use Rattle.rules.specs.Basics.{if_then_else_, address, sum16}

@@ -22,7 +22,8 @@ use Rattle.rules.specs.Bus.{resetBus, images, World}
 use Rattle.rules.specs.Record.{stateOf, recordOf, wellFormed}
 use Rattle.rules.specs.Step.{Outcome, busAt, ranOf, stateAfter, finished, opcodeOf, canStep, refused, stepTests, step}
 use Rattle.rules.specs.Run.{Tally, stepAt, further, played, stopped, continued, play, start, runTests, runOf}
-use Rattle.admission_rules.specs.Safety.{Stacked, Effect, effectAt, stackedAfter, pushesOf, stackWrites, Call, ProperScript, Proper, stateIn, eventIn, effect, Plays, History, Admissible, Safe, Demand3}
+use Rattle.admission_rules.specs.Safety.{Stacked, Effect, effectAt, stackedAfter, pushesOf, stackWrites, Call, ProperScript, Proper}
+use Rattle.admission_rules.specs.Safety.{stateIn, eventIn, effect, Plays, History, Admissible, Safe, Demand3}
 use Rattle.laws.proofs.Tests.{Hold, tested-all}
 use Rattle.laws.proofs.Records.{read-again}
 use Rattle.laws.proofs.Steps.{lawful}

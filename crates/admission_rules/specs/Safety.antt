@@ -17,7 +17,8 @@ use lib.ListN.{length, drop}
 use Rattle.rules.specs.declared.State.{State}
 use Rattle.rules.specs.declared.Stacking.the-variants.{Php, Plp, Pha, Pla, Rts, Rti}
 use Rattle.rules.specs.declared.Instruction.{Instruction}
-use Rattle.rules.specs.declared.Instruction.the-variants.{Read, Store, Change, Accumulator, Implied, AtStack, Branch, Jump, JumpIndirect, Jsr, Brk, Txs, Cli, Undefined}
+use Rattle.rules.specs.declared.Instruction.the-variants.{Read, Store, Change, Accumulator, Implied, AtStack, Branch, Jump, JumpIndirect}
+use Rattle.rules.specs.declared.Instruction.the-variants.{Jsr, Brk, Txs, Cli, Undefined}
 use Rattle.rules.specs.declared.StepAnswer.the-variants.{Stepped}
 use Rattle.rules.specs.declared.Verdict.the-variants.{Accepted}
 use Rattle.rules.specs.Basics.{if_then_else_, at, address, sum16}

@@ -27,7 +27,8 @@ pub sets-front : (l t : List ℕ) → length l ≤ length t → sets t 0 l ≡ f
 sets-front l t h = let z : 0 + length l ≡ length l = omega arith in sets-eq l t 0 (omega arith) ∙ (rw z)
 
 -- one more, behind what is put already
-pub each-more : (f : ℕ → List ℕ) (n p q : ℕ) (t : List ℕ) → q ≡ p + length (each n f) → sets (sets t p (each n f)) q (f n) ≡ sets t p (each (suc n) f)
+pub each-more : (f : ℕ → List ℕ) (n p q : ℕ) (t : List ℕ) → q ≡ p + length (each n f) →
+    sets (sets t p (each n f)) q (f n) ≡ sets t p (each (suc n) f)
 unfolding each
 each-more f n p q t e = rw e (sym (sets-append (each n f) (f n) t p))
 

@@ -5,7 +5,8 @@ use mathlib.Core.List.{List, [], _∷_}
 use lib.Dec.{ltb}
 use lib.ListN.{getD}
 use Rattle.rules.specs.declared.Mode.{Mode}
-use Rattle.rules.specs.declared.Mode.the-variants.{Immediate, Zero, ZeroX, ZeroY, Absolute, AbsoluteX, AbsoluteY, IndirectX, IndirectY, IndirectBankY}
+use Rattle.rules.specs.declared.Mode.the-variants.{Immediate, Zero, ZeroX, ZeroY, Absolute, AbsoluteX, AbsoluteY, IndirectX, IndirectY}
+use Rattle.rules.specs.declared.Mode.the-variants.{IndirectBankY}
 use Rattle.rules.specs.declared.Reading.{Reading}
 use Rattle.rules.specs.declared.Reading.the-variants.{Ora, And, Eor, Adc, Lda, Cmp, Sbc, Ldx, Ldy, Cpx, Cpy, Bit}
 use Rattle.rules.specs.declared.Storing.{Storing}
@@ -19,7 +20,8 @@ use Rattle.rules.specs.declared.Internal.the-variants.{Clc, Sec, Sei, Clv, Cld,
 use Rattle.rules.specs.declared.Stacking.{Stacking}
 use Rattle.rules.specs.declared.Stacking.the-variants.{Php, Plp, Pha, Pla, Rts, Rti}
 use Rattle.rules.specs.declared.Instruction.{Instruction}
-use Rattle.rules.specs.declared.Instruction.the-variants.{Read, Store, Change, Accumulator, Implied, AtStack, Branch, Jump, JumpIndirect, Jsr, Brk, Txs, Cli, Undefined}
+use Rattle.rules.specs.declared.Instruction.the-variants.{Read, Store, Change, Accumulator, Implied, AtStack, Branch, Jump, JumpIndirect}
+use Rattle.rules.specs.declared.Instruction.the-variants.{Jsr, Brk, Txs, Cli, Undefined}
 use Rattle.rules.specs.Basics.{if_then_else_}
 use Rattle.rules.specs.Opcodes.{Entry, instructionOf}
 

@@ -12,7 +12,8 @@ use rules::Stacking;
 use rules::Storing;
 ghost use mathlib.Core.Path.{_≡_};
 ghost use Rattle.rules.specs.Opcodes.{decode, instructionOf};
-ghost use Rattle.decode.specs.Numbers.{readingOf, storingOf, changingOf, internalOf, stackingOf, conditionOf, modeOf, singleOf, withMode, made};
+ghost use Rattle.decode.specs.Numbers.{readingOf, storingOf, changingOf, internalOf, stackingOf, conditionOf, modeOf, singleOf};
+ghost use Rattle.decode.specs.Numbers.{withMode, made};
 
 fn reading(n: u8) -> Reading
     ensures { λ r. ⌜ r ≡ readingOf n ⌝ }

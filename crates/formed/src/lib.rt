@@ -12,7 +12,8 @@ fn flags_fit(p: u8) -> bool
     p / 16 % 4 == 2
 }
 
-// "Bytes 8, 9 are 0 on the 6502, at most 15 on the 6509. Byte 10 is 0 on the 6508, byte 11 is 0 on the 6509." A sum is 0 where each part of it is.
+// "Bytes 8, 9 are 0 on the 6502, at most 15 on the 6509. Byte 10 is 0 on the 6508, byte 11 is 0 on the 6509." A sum is 0 where each part
+// of it is.
 fn rest_fits(part: u8, first: u8, second: u8, level: u8, pages: u8) -> bool
     ensures { λ r. ⌜ r ≡ restFits part first second level pages ⌝ }
 {

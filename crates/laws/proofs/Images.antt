@@ -18,7 +18,8 @@ use Rattle.rules.specs.Opcodes.{decode, isDefined}
 use Rattle.rules.specs.declared.Event.{Event}
 use Rattle.rules.specs.declared.Event.the-variants.{Res, Nmi, Irq, Execute}
 use Rattle.rules.specs.Interrupts.{cyclesOf}
-use Rattle.rules.specs.Bus.{is6508, selected, port, narrow, withRegisters, isProtected, Cell, first, second, ofImage, cellOf, images, Chart, poked, charts, World, world, held, kept, look, stored, board}
+use Rattle.rules.specs.Bus.{is6508, selected, port, narrow, withRegisters, isProtected, Cell, first, second, ofImage, cellOf, images}
+use Rattle.rules.specs.Bus.{Chart, poked, charts, World, world, held, kept, look, stored, board}
 use Rattle.rules.specs.Step.{Outcome, busAt, ranOf, finished, opcodeOf, canStep, stateNow, eventNow, refused, stepTests, step}
 use Rattle.laws.proofs.Tests.{if-both, tested-both}
 use Rattle.laws.proofs.Cycles.{Alike, Ended, run-alike}
@@ -31,7 +32,8 @@ pub record Holds (l : List ℕ) (f : Chart) : Type 0 where
 holds-poke : (l : List ℕ) (f : Chart) → Holds l f → (i v : ℕ) → Holds (set l i v) (poked f i v)
 holds-poke l f h i v = record { size = length-set l i v ∙ h .size; bytes = λ j. go j (ℕ-discrete j i) (ltb i (f .size)) refl }
   where
-    go : (j : ℕ) → Dec (j ≡ i) → (b : Bool) → ltb i (f .size) ≡ b → at (set l i v) j ≡ (if eqb j i && ltb i (f .size) then v else f .byteAt j)
+    go : (j : ℕ) → Dec (j ≡ i) → (b : Bool) → ltb i (f .size) ≡ b →
+        at (set l i v) j ≡ (if eqb j i && ltb i (f .size) then v else f .byteAt j)
     go j (yes e) true q = rw (e, eq-eqb i i refl, q) (getD-set-same l i v 0 (rw (h .size) (ltb-true i (f .size) q)))
     go j (yes e) false q = rw (e, eq-eqb i i refl, q, set-out l i v (rw (h .size) (ltb-false i (f .size) q))) (h .bytes i)
     go j (no d) b q = rw (ne-eqb j i d) (getD-set-other l i j v 0 d ∙ h .bytes j)
@@ -54,7 +56,8 @@ kept-shown v w s first x = record { bus = ap (λ (b : Bus). withRegisters (narro
 kept-shown v w s second x = record { bus = ap (λ (b : Bus). withRegisters (b .first) (narrow (b .part) x) b) (s .bus); image = s .image }
 kept-shown v w s (ofImage n) x = record { bus = s .bus; image = holds-poke (v .image) (w .image) (s .image) n x }
 
-stored-shown : (v : World (List ℕ)) (w : World Chart) → Shown v w → (k : Bank) (p x : ℕ) → Shown (stored images v k p x) (stored charts w k p x)
+stored-shown : (v : World (List ℕ)) (w : World Chart) → Shown v w → (k : Bank) (p x : ℕ) →
+    Shown (stored images v k p x) (stored charts w k p x)
 unfolding stored
 stored-shown v w s k p x =
     rw (ap (λ (b : Bus). isProtected (b .protected) p) (s .bus), ap (λ (b : Bus). cellOf b k p) (s .bus))
@@ -66,7 +69,8 @@ boards-alike = record { bank = λ v w s k. ap (λ (b : Bus). selected b k) (s .b
 module _ (m : List ℕ) (f : Chart) (h : Holds m f) where
   ran-alike : (e : Event) (u : State) → Ended Shown (ranOf images e u m) (ranOf charts e u f)
   ran-alike e u =
-      run-alike boards-alike (cyclesOf e (u .cpu)) (world (busAt e (u .bus)) m) (world (busAt e (u .bus)) f) (record { bus = refl; image = h })
+      run-alike boards-alike (cyclesOf e (u .cpu)) (world (busAt e (u .bus)) m) (world (busAt e (u .bus)) f)
+      (record { bus = refl; image = h })
 
   opcode-same : (u : State) → opcodeOf images u m ≡ opcodeOf charts u f
   opcode-same u = look-shown (world (u .bus) m) (world (u .bus) f) (record { bus = refl; image = h }) execution (u .cpu .pc)

@@ -10,15 +10,18 @@ use lib.ListN.{length}
 use Rattle.rules.specs.declared.Cpu.{Cpu}
 use Rattle.rules.specs.declared.State.{State}
 use Rattle.rules.specs.declared.Mode.{Mode}
-use Rattle.rules.specs.declared.Mode.the-variants.{Immediate, Zero, ZeroX, ZeroY, Absolute, AbsoluteX, AbsoluteY, IndirectX, IndirectY, IndirectBankY}
+use Rattle.rules.specs.declared.Mode.the-variants.{Immediate, Zero, ZeroX, ZeroY, Absolute, AbsoluteX, AbsoluteY, IndirectX, IndirectY}
+use Rattle.rules.specs.declared.Mode.the-variants.{IndirectBankY}
 use Rattle.rules.specs.declared.Stacking.the-variants.{Php, Plp, Pha, Pla, Rts, Rti}
 use Rattle.rules.specs.declared.Instruction.{Instruction}
-use Rattle.rules.specs.declared.Instruction.the-variants.{Read, Store, Change, Accumulator, Implied, AtStack, Branch, Jump, JumpIndirect, Jsr, Brk, Txs, Cli, Undefined}
+use Rattle.rules.specs.declared.Instruction.the-variants.{Read, Store, Change, Accumulator, Implied, AtStack, Branch, Jump, JumpIndirect}
+use Rattle.rules.specs.declared.Instruction.the-variants.{Jsr, Brk, Txs, Cli, Undefined}
 use Rattle.rules.specs.Basics.{if_then_else_, address}
 use Rattle.rules.specs.Cycles.{Bank, execution, indirect, _>>=_, Device, run}
 use Rattle.rules.specs.Opcodes.{Entry, undefined, alone, byte, word, late, Row, rows, among, decode, isDefined}
 use Rattle.rules.specs.Addressing.{load, place, pointer, zeroIndexed, indexed, crosses, loadIndexed}
-use Rattle.rules.specs.Operations.{branchTo, enter, push, pull, jsr, rts, rti, brk, jumpIndirect, perform, operate, instruction, taken, target, onward}
+use Rattle.rules.specs.Operations.{branchTo, enter, push, pull, jsr, rts, rti, brk, jumpIndirect, perform, operate, instruction, taken}
+use Rattle.rules.specs.Operations.{target, onward}
 use Rattle.rules.specs.declared.Event.{Event}
 use Rattle.rules.specs.declared.Event.the-variants.{Res, Nmi, Irq, Execute}
 use Rattle.rules.specs.Interrupts.{interrupt, reset, cyclesOf}

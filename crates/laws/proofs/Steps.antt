@@ -17,7 +17,8 @@ use Rattle.rules.specs.declared.Event.{Event}
 use Rattle.rules.specs.Interrupts.{cyclesOf}
 use Rattle.rules.specs.Bus.{Memory, world, board, listOf}
 use Rattle.rules.specs.Record.{cyclesIn, stateOf, recordOf, wellFormed}
-use Rattle.rules.specs.Step.{Outcome, linesFit, front, busAt, ranOf, stateAfter, finished, canStep, stateNow, eventNow, refused, stepTests, step}
+use Rattle.rules.specs.Step.{Outcome, linesFit, front, busAt, ranOf, stateAfter, finished, canStep, stateNow, eventNow, refused}
+use Rattle.rules.specs.Step.{stepTests, step}
 use Rattle.laws.proofs.Tests.{Hold, tested-case}
 use Rattle.laws.proofs.Cycles.{most-length}
 use Rattle.laws.proofs.Lengths.{at-most-seven, two-least}
@@ -92,7 +93,8 @@ module _ {M : Type 0} (memory : Memory M) (r : List ℕ) (m : M) (lines pins : �
         most = seven;
         cycles = omega arith;
         record-size = refl;
-        record-formed = state-formed (stateAfter lines u ran) (at r 0) (at r 11) g (f .part) (f .pages) (level-fits (at r 0) lines pins fit);
+        record-formed = state-formed (stateAfter lines u ran) (at r 0) (at r 11) g (f .part) (f .pages)
+            (level-fits (at r 0) lines pins fit);
         part = g .part;
         pages = g .protected;
         room = omega arith;

@@ -101,7 +101,8 @@ fn raise(counts: &mut [u64; 256], page: u8)
 // Each record adds one to a count. No count overflows, since not even their sum does.
 fn count(reads: &mut [u64; 256], writes: &mut [u64; 256], list: &[u8])
     requires { ⌜ Counts (now reads) (now writes) (now list) ⌝ }
-    ensures { λ r. ⌜ (now (reads .exit) ≡ counted 0 (now (reads .entry)) (now (list .entry)) (recordsIn (now (list .entry)))) × (now (writes .exit) ≡ counted 1 (now (writes .entry)) (now (list .entry)) (recordsIn (now (list .entry)))) ⌝ }
+    ensures { λ r. ⌜ (now (reads .exit) ≡ counted 0 (now (reads .entry)) (now (list .entry)) (recordsIn (now (list .entry))))
+        × (now (writes .exit) ≡ counted 1 (now (writes .entry)) (now (list .entry)) (recordsIn (now (list .entry)))) ⌝ }
 {
     let n = list.len() / 8;
     let mut k = 0;
@@ -118,7 +119,8 @@ fn count(reads: &mut [u64; 256], writes: &mut [u64; 256], list: &[u8])
 
 // A list is fed to the counts: 20, 21 and 22 are judged of the whole of it before the first count is raised.
 pub fn feed(reads: &mut [u64; 256], writes: &mut [u64; 256], list: &[u8]) -> CountAnswer
-    ensures { λ r. ⌜ counting r (now (reads .exit)) (now (writes .exit)) ≡ fed (now (reads .entry)) (now (writes .entry)) (now (list .entry)) ⌝ }
+    ensures { λ r. ⌜ counting r (now (reads .exit)) (now (writes .exit))
+        ≡ fed (now (reads .entry)) (now (writes .entry)) (now (list .entry)) ⌝ }
 {
     if list.len() % 8 != 0 {
         return CountAnswer::Uncounted(Refusal::ListLength);
@@ -174,7 +176,8 @@ fn refused_for(e: Refusal, block: &[u8]) -> Counting
 // A list that is longer than any buffer comes in blocks. The counting of what came so far, whole records, becomes that with one block more.
 pub fn next(counts: Counting, block: &[u8]) -> Counting
     ensures exact { λ r. ⌜ r ≡ further counts (now (block .entry)) ⌝ }
-    ensures joined { λ r. ⌜ ((l : List ℕ) → Bytes l → length l % 8 ≡ 0 → counts ≡ countingOf l → r ≡ countingOf (l ++ now (block .entry))) ⌝ }
+    ensures joined { λ r. ⌜ ((l : List ℕ) → Bytes l → length l % 8 ≡ 0 → counts ≡ countingOf l →
+        r ≡ countingOf (l ++ now (block .entry))) ⌝ }
 {
     let answer = counts.answer;
     match answer {

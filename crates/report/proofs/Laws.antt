@@ -21,7 +21,8 @@ use Rattle.characters.specs.Shown.{Puts, Shows}
 use Rattle.characters.proofs.Laws.{spaced-most, number-most, puts-piece, puts-append, puts-shown}
 
 -- a page, its reads, its writes, and the line's end
-pub page-put : (page r w p q e : ℕ) (t u v x y : List ℕ) → u ≡ sets t p (hex page) → Puts (spaced r) (p + 2) q u v → Puts (spaced w) q e v x →
+pub page-put : (page r w p q e : ℕ) (t u v x y : List ℕ) → u ≡ sets t p (hex page) → Puts (spaced r) (p + 2) q u v →
+    Puts (spaced w) q e v x →
     y ≡ sets x e (code "\n" ∷ []) → Puts (pageLine page r w) p (e + 1) t y
 unfolding pageLine
 page-put page r w p q e t u v x y a b c d =

@@ -41,7 +41,8 @@ fn is_idle(reads: u64, writes: u64) -> bool
 // "one line per page with any traffic"
 fn put_traffic(text: &mut [u8], at: usize, page: u8, reads: u64, writes: u64) -> usize
     requires { ⌜ at + 45 ≤ length (now text) ⌝ }
-    ensures { λ r. ⌜ Puts (if eqb reads 0 && eqb writes 0 then [] else pageLine page reads writes) at r (now (text .entry)) (now (text .exit)) ⌝ }
+    ensures { λ r. ⌜ Puts (if eqb reads 0 && eqb writes 0 then [] else pageLine page reads writes) at r (now (text .entry))
+        (now (text .exit)) ⌝ }
 {
     if is_idle(reads, writes) {
         return at;

@@ -3,7 +3,9 @@ use Prim.Native.Nat.{ℕ, _+_, _*_}
 use mathlib.Core.Bool.{Bool}
 use mathlib.Core.List.{List, [], _∷_}
 use Rattle.rules.specs.declared.Refusal.{Refusal}
-use Rattle.rules.specs.declared.Refusal.the-variants.{RecordLength, Malformed, ImageLength, Lines, Room, Undefined, ScriptLength, FileLength, Admission, MapRecord, Vectors, Place, StoreAddress, Stack, Successor, ListLength, ListRecord, Total}
+use Rattle.rules.specs.declared.Refusal.the-variants.{RecordLength, Malformed, ImageLength, Lines, Room, Undefined, ScriptLength}
+use Rattle.rules.specs.declared.Refusal.the-variants.{FileLength, Admission, MapRecord, Vectors, Place, StoreAddress, Stack}
+use Rattle.rules.specs.declared.Refusal.the-variants.{Successor, ListLength, ListRecord, Total}
 use Rattle.rules.specs.declared.Numbers.{Numbers}
 use Rattle.rules.specs.declared.StepAnswer.{StepAnswer}
 use Rattle.rules.specs.declared.StepAnswer.the-variants.{Stepped, Refused}

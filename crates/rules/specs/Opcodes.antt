@@ -4,7 +4,8 @@ use mathlib.Core.Bool.{Bool, true, false}
 use mathlib.Core.List.{List, [], _∷_, _++_}
 use lib.Dec.{eqb}
 use Rattle.rules.specs.declared.Mode.{Mode}
-use Rattle.rules.specs.declared.Mode.the-variants.{Immediate, Zero, ZeroX, ZeroY, Absolute, AbsoluteX, AbsoluteY, IndirectX, IndirectY, IndirectBankY}
+use Rattle.rules.specs.declared.Mode.the-variants.{Immediate, Zero, ZeroX, ZeroY, Absolute, AbsoluteX, AbsoluteY, IndirectX}
+use Rattle.rules.specs.declared.Mode.the-variants.{IndirectY, IndirectBankY}
 use Rattle.rules.specs.declared.Reading.the-variants.{Ora, And, Eor, Adc, Lda, Cmp, Sbc, Ldx, Ldy, Cpx, Cpy, Bit}
 use Rattle.rules.specs.declared.Storing.the-variants.{Sta, Stx, Sty}
 use Rattle.rules.specs.declared.Changing.{Changing}
@@ -13,7 +14,8 @@ use Rattle.rules.specs.declared.Condition.the-variants.{Bpl, Bmi, Bvc, B
 use Rattle.rules.specs.declared.Internal.the-variants.{Clc, Sec, Sei, Clv, Cld, Sed, Tax, Txa, Tay, Tya, Tsx, Inx, Iny, Dex, Dey, Nop}
 use Rattle.rules.specs.declared.Stacking.the-variants.{Php, Plp, Pha, Pla, Rts, Rti}
 use Rattle.rules.specs.declared.Instruction.{Instruction}
-use Rattle.rules.specs.declared.Instruction.the-variants.{Read, Store, Change, Accumulator, Implied, AtStack, Branch, Jump, JumpIndirect, Jsr, Brk, Txs, Cli, Undefined}
+use Rattle.rules.specs.declared.Instruction.the-variants.{Read, Store, Change, Accumulator, Implied, AtStack, Branch, Jump}
+use Rattle.rules.specs.declared.Instruction.the-variants.{JumpIndirect, Jsr, Brk, Txs, Cli, Undefined}
 use Rattle.rules.specs.Basics.{if_then_else_}
 
 -- What an opcode stands for: nothing, or an instruction that is made of no operand, of a byte, of an address (low byte first), or, late, of
@@ -47,7 +49,8 @@ instructionOf (byte f) low high = f low
 instructionOf (word f) low high = f low high
 instructionOf (late f) low high = f low
 
--- The modes as the document writes them: #, z, a, (z,X), .., by the length of their operand. "Only the last one or two accesses of B1 and 91
+-- The modes as the document writes them: #, z, a, (z,X), .., by the length of their operand. "Only the last one or two accesses of B1 and
+-- 91
 -- (after the pointer) use the indirect bank": ⟨z⟩Yᵢ is their (z),Y.
 pub data Form : Type 0 where
   one : (ℕ → Mode) → Form
@@ -130,7 +133,8 @@ others =
     0x10 is byte (Branch Bpl) ∷ 0x30 is byte (Branch Bmi) ∷ 0x50 is byte (Branch Bvc) ∷ 0x70 is byte (Branch Bvs) ∷
     0x90 is byte (Branch Bcc) ∷ 0xB0 is byte (Branch Bcs) ∷ 0xD0 is byte (Branch Bne) ∷ 0xF0 is byte (Branch Beq) ∷
     -- JMP a, JMP (a), JSR, RTS, RTI, BRK, NOP
-    0x4C is word Jump ∷ 0x6C is word JumpIndirect ∷ 0x20 is late Jsr ∷ 0x60 is alone (AtStack Rts) ∷ 0x40 is alone (AtStack Rti) ∷ 0x00 is alone Brk ∷
+    0x4C is word Jump ∷ 0x6C is word JumpIndirect ∷ 0x20 is late Jsr ∷ 0x60 is alone (AtStack Rts) ∷ 0x40 is alone
+    (AtStack Rti) ∷ 0x00 is alone Brk ∷
     0xEA is alone (Implied Nop) ∷
     -- PHP PLP PHA PLA
     0x08 is alone (AtStack Php) ∷ 0x28 is alone (AtStack Plp) ∷ 0x48 is alone (AtStack Pha) ∷ 0x68 is alone (AtStack Pla) ∷

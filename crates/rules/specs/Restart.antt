@@ -45,7 +45,8 @@ abbrev pub standing : ℕ → List (List ℕ) → List (List ℕ)
 standing k rs = drop (length rs - k / 16) rs
 
 -- A file that appends and power dips made, from nothing, in which these records, completely written, stand, the last one first. An append
--- that is cut leaves fewer than sixteen bytes t in its place: the first ones of its record, none, or, while a tail is being dropped, what is
+-- that is cut leaves fewer than sixteen bytes t in its place: the first ones of its record, none, or, while a tail is being dropped, what
+-- is
 -- left of that. And the file may lose its end at any time, to any prefix of it, and older records with it.
 pub data Grown : List (List ℕ) → List ℕ → Type 0 where
   empty : Grown [] []

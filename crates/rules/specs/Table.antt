@@ -7,7 +7,8 @@ use Rattle.rules.specs.declared.Changing.the-variants.{Asl, Rol, Lsr, Ro
 use Rattle.rules.specs.declared.Condition.the-variants.{Bpl, Bmi, Bvc, Bvs, Bcc, Bcs, Bne, Beq}
 use Rattle.rules.specs.declared.Internal.the-variants.{Clc, Sec, Sei, Clv, Cld, Sed, Tax, Txa, Tay, Tya, Tsx, Inx, Iny, Dex, Dey, Nop}
 use Rattle.rules.specs.declared.Stacking.the-variants.{Php, Plp, Pha, Pla, Rts, Rti}
-use Rattle.rules.specs.declared.Instruction.the-variants.{Read, Store, Change, Accumulator, Implied, AtStack, Branch, Jump, JumpIndirect, Jsr, Brk, Txs, Cli}
+use Rattle.rules.specs.declared.Instruction.the-variants.{Read, Store, Change, Accumulator, Implied, AtStack, Branch, Jump}
+use Rattle.rules.specs.declared.Instruction.the-variants.{JumpIndirect, Jsr, Brk, Txs, Cli}
 use Rattle.rules.specs.Opcodes.{Entry, undefined, alone, byte, word, late, _·_, #, z, zX, zY, a, aX, aY, ⟨zX⟩, ⟨z⟩Y, ⟨z⟩Yᵢ}
 
 abbrev ∅ : Entry

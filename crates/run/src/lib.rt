@@ -34,7 +34,8 @@ fn refused(tally: &mut [u64; 2], why: Refusal) -> u64
 // The word of the step with these lines and pins.
 fn turn(state: &mut [u8], image: &mut [u8], lines: u8, pins: u8, list: &mut [u8]) -> u64
     requires { ⌜ Fits (now state) (now image) ⌝ }
-    ensures { λ r. ⌜ left r (now (state .exit)) (now (image .exit)) (now (list .exit)) ≡ worded stepWord (step images (now (state .entry)) (now (image .entry)) lines pins (now (list .entry))) ⌝ }
+    ensures { λ r. ⌜ left r (now (state .exit)) (now (image .exit)) (now (list .exit))
+        ≡ worded stepWord (step images (now (state .entry)) (now (image .entry)) lines pins (now (list .entry))) ⌝ }
 {
     if lines == 0 {
         if pins == 0 {
@@ -54,7 +55,8 @@ fn play(
     tally: &mut [u64; 2],
 ) -> u64
     requires { ⌜ Fits (now state) (now image) × (length (now script) % 2 ≡ 0) ⌝ }
-    ensures { λ r. ⌜ left (r, now (tally .exit)) (now (state .exit)) (now (image .exit)) (now (accesses .exit)) ≡ worded tallied (play images (now (script .entry)) (start (now (state .entry)) (now (image .entry)) (now (accesses .entry)))) ⌝ }
+    ensures { λ r. ⌜ left (r, now (tally .exit)) (now (state .exit)) (now (image .exit)) (now (accesses .exit))
+        ≡ worded tallied (play images (now (script .entry)) (start (now (state .entry)) (now (image .entry)) (now (accesses .entry)))) ⌝ }
 {
     let mut i: usize = 0;
     let mut listed: usize = 0;
@@ -83,7 +85,8 @@ pub fn run(
     accesses: &mut [u8],
     tally: &mut [u64; 2],
 ) -> u64
-    ensures { λ r. ⌜ left (r, now (tally .exit)) (now (state .exit)) (now (image .exit)) (now (accesses .exit)) ≡ worded tallied (runOf images (now (state .entry)) (now (image .entry)) (now (script .entry)) (now (accesses .entry))) ⌝ }
+    ensures { λ r. ⌜ left (r, now (tally .exit)) (now (state .exit)) (now (image .exit)) (now (accesses .exit))
+        ≡ worded tallied (runOf images (now (state .entry)) (now (image .entry)) (now (script .entry)) (now (accesses .entry))) ⌝ }
 {
     match checks::fit(state, image) {
         Checked::Fit => {

@@ -70,7 +70,8 @@ fn long(a: u8, b: u8, c: u8, d: u8) -> u32
 
 fn set_cycles(state: &mut [u8], n: u32)
     requires { ⌜ length (now state) ≡ 16 ⌝ }
-    ensures { λ r. ⌜ ((s : State) → now (state .entry) ≡ recordOf s → now (state .exit) ≡ recordOf (record { cpu = s .cpu; bus = s .bus; nmi = s .nmi; cycles = n })) ⌝ }
+    ensures { λ r. ⌜ ((s : State) → now (state .entry) ≡ recordOf s →
+        now (state .exit) ≡ recordOf (record { cpu = s .cpu; bus = s .bus; nmi = s .nmi; cycles = n })) ⌝ }
 {
     state[12] = (n % 256) as u8;
     state[13] = (n / 256 % 256) as u8;
@@ -96,7 +97,8 @@ fn reset_register(part: u8) -> u8
 // "6508 registers 0 or 6509 registers 15, both before its first access"
 fn reset_registers(state: &mut [u8])
     requires { ⌜ length (now state) ≡ 16 ⌝ }
-    ensures { λ r. ⌜ ((s : State) → now (state .entry) ≡ recordOf s → now (state .exit) ≡ recordOf (moved (s .cpu) (resetBus (s .bus)) s)) ⌝ }
+    ensures { λ r. ⌜ ((s : State) → now (state .entry) ≡ recordOf s →
+        now (state .exit) ≡ recordOf (moved (s .cpu) (resetBus (s .bus)) s)) ⌝ }
 {
     let v = reset_register(state[0]);
     state[8] = v;
@@ -106,7 +108,9 @@ fn reset_registers(state: &mut [u8])
 // RES, counted.
 fn reset(pins: u8, state: &mut [u8], image: &[u8], list: &mut [u8])
     requires { ⌜ Sized (length (now state)) (length (now image)) (length (now list)) ⌝ }
-    ensures { λ r. ⌜ ((s : State) → Begins s (now (state .entry)) pins (length (now (image .entry))) → Counted (reset (s .cpu)) (moved (s .cpu) (resetBus (s .bus)) s) (now (image .entry)) (now (list .entry)) 7 (now (state .exit)) (now (image .entry)) (now (list .exit))) ⌝ }
+    ensures { λ r. ⌜ ((s : State) → Begins s (now (state .entry)) pins (length (now (image .entry))) →
+        Counted (reset (s .cpu)) (moved (s .cpu) (resetBus (s .bus)) s) (now (image .entry)) (now (list .entry)) 7 (now (state .exit))
+        (now (image .entry)) (now (list .exit))) ⌝ }
 {
     reset_registers(state);
     let w = wiring::wire(state, pins, image.len());
@@ -117,7 +121,9 @@ fn reset(pins: u8, state: &mut [u8], image: &[u8], list: &mut [u8])
 // IRQ or NMI, counted.
 fn interrupt(vector: u16, pins: u8, state: &mut [u8], image: &mut [u8], list: &mut [u8])
     requires { ⌜ (vector < 65535) × Sized (length (now state)) (length (now image)) (length (now list)) ⌝ }
-    ensures { λ r. ⌜ ((s : State) → Begins s (now (state .entry)) pins (length (now (image .entry))) → Counted (interrupt vector (s .cpu)) s (now (image .entry)) (now (list .entry)) 7 (now (state .exit)) (now (image .exit)) (now (list .exit))) ⌝ }
+    ensures { λ r. ⌜ ((s : State) → Begins s (now (state .entry)) pins (length (now (image .entry))) →
+        Counted (interrupt vector (s .cpu)) s (now (image .entry)) (now (list .entry)) 7 (now (state .exit)) (now (image .exit))
+        (now (list .exit))) ⌝ }
 {
     let w = wiring::wire(state, pins, image.len());
     interrupts::interrupt(vector, state, w, image, list);
@@ -127,7 +133,8 @@ fn interrupt(vector: u16, pins: u8, state: &mut [u8], image: &mut [u8], list: &m
 // The instruction at PC, counted. Answers its accesses, or 0 where the opcode is undefined.
 fn execute(pins: u8, state: &mut [u8], image: &mut [u8], list: &mut [u8]) -> usize
     requires { ⌜ Sized (length (now state)) (length (now image)) (length (now list)) ⌝ }
-    ensures { λ r. ⌜ (r ≤ 7) × ((s : State) → Begins s (now (state .entry)) pins (length (now (image .entry))) → Taken Execute s (now (image .entry)) (now (list .entry)) r (now (state .exit)) (now (image .exit)) (now (list .exit))) ⌝ }
+    ensures { λ r. ⌜ (r ≤ 7) × ((s : State) → Begins s (now (state .entry)) pins (length (now (image .entry))) →
+        Taken Execute s (now (image .entry)) (now (list .entry)) r (now (state .exit)) (now (image .exit)) (now (list .exit))) ⌝ }
 {
     let count = processor::instruction(pins, state, image, list);
     if count == 0 {
@@ -140,7 +147,8 @@ fn execute(pins: u8, state: &mut [u8], image: &mut [u8], list: &mut [u8]) -> usi
 // What a step takes. Answers the accesses made, or 0 where it is an instruction whose opcode is undefined.
 fn take(event: Event, pins: u8, state: &mut [u8], image: &mut [u8], list: &mut [u8]) -> usize
     requires { ⌜ Sized (length (now state)) (length (now image)) (length (now list)) ⌝ }
-    ensures { λ r. ⌜ (r ≤ 7) × ((s : State) → Begins s (now (state .entry)) pins (length (now (image .entry))) → Taken event s (now (image .entry)) (now (list .entry)) r (now (state .exit)) (now (image .exit)) (now (list .exit))) ⌝ }
+    ensures { λ r. ⌜ (r ≤ 7) × ((s : State) → Begins s (now (state .entry)) pins (length (now (image .entry))) →
+        Taken event s (now (image .entry)) (now (list .entry)) r (now (state .exit)) (now (image .exit)) (now (list .exit))) ⌝ }
 {
     match event {
         Event::Res => {
@@ -162,7 +170,8 @@ fn take(event: Event, pins: u8, state: &mut [u8], image: &mut [u8], list: &mut [
 // "6 adds PC and opcode"
 fn undefined(pins: u8, state: &[u8], image: &[u8]) -> u64
     requires { ⌜ Sized (length (now state)) (length (now image)) 56 ⌝ }
-    ensures { λ r. ⌜ ((s : State) → Begins s (now (state .entry)) pins (length (now (image .entry))) → r ≡ refusalWord (Undefined (s .cpu .pc) (opcodeOf images s (now (image .entry))))) ⌝ }
+    ensures { λ r. ⌜ ((s : State) → Begins s (now (state .entry)) pins (length (now (image .entry))) →
+        r ≡ refusalWord (Undefined (s .cpu .pc) (opcodeOf images s (now (image .entry))))) ⌝ }
 {
     let w = wiring::wire(state, pins, image.len());
     let pc = state::pc_of(state);
@@ -176,7 +185,9 @@ fn undefined(pins: u8, state: &[u8], image: &[u8]) -> u64
 // The word of a step that took what it takes. "Every step stores the NMI level".
 fn answer(lines: u8, pins: u8, count: usize, state: &mut [u8], image: &[u8]) -> u64
     requires { ⌜ (count ≤ 7) × Sized (length (now state)) (length (now image)) 56 ⌝ }
-    ensures { λ r. ⌜ ((e : Event) (s : State) (i l l′ : List ℕ) → Begins s (recordOf s) pins (length i) → 56 ≤ length l → Taken e s i l count (now (state .entry)) (now (image .entry)) l′ → left r (now (state .exit)) (now (image .entry)) l′ ≡ worded stepWord (advanced e lines s (recordOf s) i l)) ⌝ }
+    ensures { λ r. ⌜ ((e : Event) (s : State) (i l l′ : List ℕ) → Begins s (recordOf s) pins (length i) → 56 ≤ length l →
+        Taken e s i l count (now (state .entry)) (now (image .entry)) l′ →
+        left r (now (state .exit)) (now (image .entry)) l′ ≡ worded stepWord (advanced e lines s (recordOf s) i l)) ⌝ }
 {
     if count == 0 {
         return undefined(pins, state, image);
@@ -193,7 +204,8 @@ fn answer(lines: u8, pins: u8, count: usize, state: &mut [u8], image: &[u8]) -> 
 // these two first, so that `step` is not compiled into the way that most steps go.
 pub fn quiet(state: &mut [u8], image: &mut [u8], list: &mut [u8]) -> u64
     requires { ⌜ Fits (now state) (now image) ⌝ }
-    ensures { λ r. ⌜ left r (now (state .exit)) (now (image .exit)) (now (list .exit)) ≡ worded stepWord (step images (now (state .entry)) (now (image .entry)) 0 0 (now (list .entry))) ⌝ }
+    ensures { λ r. ⌜ left r (now (state .exit)) (now (image .exit)) (now (list .exit))
+        ≡ worded stepWord (step images (now (state .entry)) (now (image .entry)) 0 0 (now (list .entry))) ⌝ }
 {
     if list.len() < 56 {
         return words::refusal_word(Refusal::Room);
@@ -205,7 +217,8 @@ pub fn quiet(state: &mut [u8], image: &mut [u8], list: &mut [u8]) -> u64
 // The word of any step of a record and an image that fit: 4 to 6 in order; "no byte moves".
 pub fn step(state: &mut [u8], image: &mut [u8], lines: u8, pins: u8, list: &mut [u8]) -> u64
     requires { ⌜ Fits (now state) (now image) ⌝ }
-    ensures { λ r. ⌜ left r (now (state .exit)) (now (image .exit)) (now (list .exit)) ≡ worded stepWord (step images (now (state .entry)) (now (image .entry)) lines pins (now (list .entry))) ⌝ }
+    ensures { λ r. ⌜ left r (now (state .exit)) (now (image .exit)) (now (list .exit))
+        ≡ worded stepWord (step images (now (state .entry)) (now (image .entry)) lines pins (now (list .entry))) ⌝ }
 {
     if !checks::lines_fit(state[0], lines, pins) {
         return words::refusal_word(Refusal::Lines);

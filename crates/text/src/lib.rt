@@ -122,8 +122,10 @@ fn put_step(text: &mut [u8], n: u8, state: &[u8], list: &[u8]) -> usize
 
 // A step's word: its low byte is 0, or the number of a refusal.
 fn put_answer(text: &mut [u8], word: u64, state: &[u8], list: &[u8]) -> usize
-    requires { ⌜ ((word % 256 ≡ 0 → word / 256 ≤ 7) × (123 ≤ length (now text))) × ((length (now state) ≡ 16) × (56 ≤ length (now list))) ⌝ }
-    ensures { λ r. ⌜ ((a : StepAnswer) → word ≡ stepWord a → Shows (stepText a (now (state .entry)) (now (list .entry))) r (now (text .entry)) (now (text .exit))) ⌝ }
+    requires { ⌜ ((word % 256 ≡ 0 → word / 256 ≤ 7) × (123 ≤ length (now text)))
+        × ((length (now state) ≡ 16) × (56 ≤ length (now list))) ⌝ }
+    ensures { λ r. ⌜ ((a : StepAnswer) → word ≡ stepWord a →
+        Shows (stepText a (now (state .entry)) (now (list .entry))) r (now (text .entry)) (now (text .exit))) ⌝ }
 {
     let number = word % 256;
     if number == 0 {

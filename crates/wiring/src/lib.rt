@@ -38,7 +38,9 @@ fn base_of(bank: u8, size: usize) -> usize
 // How a step's accesses go, in the execution bank.
 pub fn wire(state: &[u8], pins: u8, size: usize) -> Wiring
     requires { ⌜ (length (now state) ≡ 16) × (65536 ≤ size) × (size % 65536 ≡ 0) ⌝ }
-    ensures { λ r. ⌜ ((r .base + 65536 ≤ size) × (r .size ≡ size)) × ((s : State) → now (state .entry) ≡ recordOf s → Sound (s .bus) → Banked size → s .bus .pins ≡ pins → s .bus .banks ≡ size / 65536 → Stands execution s (now (state .entry)) r) ⌝ }
+    ensures { λ r. ⌜ ((r .base + 65536 ≤ size) × (r .size ≡ size))
+        × ((s : State) → now (state .entry) ≡ recordOf s → Sound (s .bus) → Banked size → s .bus .pins ≡ pins →
+        s .bus .banks ≡ size / 65536 → Stands execution s (now (state .entry)) r) ⌝ }
 {
     let part = state[0];
     if part == 9 {
@@ -63,7 +65,8 @@ pub fn wire(state: &[u8], pins: u8, size: usize) -> Wiring
 // The same in the indirect bank, which is one of its own on the 6509 alone.
 pub fn indirect(state: &[u8], w: Wiring) -> Wiring
     requires { ⌜ ((length (now state) ≡ 16) × (w .base + 65536 ≤ w .size)) × (w .size % 65536 ≡ 0) ⌝ }
-    ensures { λ r. ⌜ ((r .base + 65536 ≤ w .size) × (r .size ≡ w .size)) × ((s : State) → Stands execution s (now (state .entry)) w → Stands indirect s (now (state .entry)) r) ⌝ }
+    ensures { λ r. ⌜ ((r .base + 65536 ≤ w .size) × (r .size ≡ w .size))
+        × ((s : State) → Stands execution s (now (state .entry)) w → Stands indirect s (now (state .entry)) r) ⌝ }
 {
     if state[0] == 9 {
         let bank = state[9];

@@ -24,8 +24,12 @@ slice-write-text c = rw (c .before .before .loop .inv .1, length-sets) (omega ar
 
 loop-again : tie.Need-loop-again Inv-loop μ-loop
 loop-again c =
-    let l = c .before .before .loop in
-    (omega arith, rw (l .inv .1, add-one) (sets-more (now (c .before .before .before .args .text)) (now (c .before .before .before .args .piece)) (c .before .before .before .args .at) (l .k) (c .before .loop-test .taken)))
+    let l = c .before .before .loop in (
+      omega arith,
+      rw (l .inv .1, add-one)
+          (sets-more (now (c .before .before .before .args .text)) (now (c .before .before .before .args .piece))
+          (c .before .before .before .args .at) (l .k) (c .before .loop-test .taken)),
+    )
 
 same-length : tie.Need-same-length Inv-loop μ-loop
 same-length c = rw (c .before .loop .inv .1) (rw length-sets)

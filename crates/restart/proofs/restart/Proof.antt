@@ -16,10 +16,12 @@ unfolding restart
 returns-2 c = rw (le-leb 16 _ (c .before .if1 .left), lt-leb _ 65536 (c .if2 .taken))
 
 returns-3 : tie.Need-returns-3
-returns-3 c = judged true _ (c .before .before .before .before .if1 .left) (c .before .before .before .if2 .left) (sym (c .if3 .taken) ∙ c .before .well-formed .ensures)
+returns-3 c = judged true _ (c .before .before .before .before .if1 .left) (c .before .before .before .if2 .left)
+    (sym (c .if3 .taken) ∙ c .before .well-formed .ensures)
 
 returns-4 : tie.Need-returns-4
-returns-4 c = judged false _ (c .before .before .before .before .if1 .left) (c .before .before .before .if2 .left) (sym (c .if3 .left) ∙ c .before .well-formed .ensures)
+returns-4 c = judged false _ (c .before .before .before .before .if1 .left) (c .before .before .before .if2 .left)
+    (sym (c .if3 .left) ∙ c .before .well-formed .ensures)
 
 pub restart-spec : {M : Type 1} → statement M
 restart-spec =

@@ -63,7 +63,8 @@ returns c =
     let d = told-refused _ _ _ _ _ e (at-if1 .if1 .taken) in
     let least : at .i + 1 < length script = omega (arith, at .inv .even, start .pre .1) in
     let stop = stops script (at .state) (at .image) (at .accesses) (at .i) (at .listed) (d .0) _ _ _ (d .2) least in
-    rw (c .told .ensures .0, d .1, c .told .ensures .1, rest-back (8 * at .listed) (at .accesses) _) (ap (worded tallied) (stop ∙ sym (at .inv .plays)))
+    rw (c .told .ensures .0, d .1, c .told .ensures .1, rest-back (8 * at .listed) (at .accesses) _)
+    (ap (worded tallied) (stop ∙ sym (at .inv .plays)))
 
 loop-again : tie.Need-loop-again Inv-loop μ-loop
 loop-again c =
