@@ -17,8 +17,9 @@ use Rattle.flags.proofs.Laws.{byte-most}
 -- CLC, SEC, SEI, CLV, CLD, SED
 abbrev claims : Flags → List (ℕ × ℕ)
 claims f =
-    (bitAnd (byteOf f) 254, byteOf (withC false f)) ∷ (bitOr (byteOf f) 1, byteOf (withC true f)) ∷ (bitOr (byteOf f) 4, byteOf (withI true f)) ∷
-    (bitAnd (byteOf f) 191, byteOf (withV false f)) ∷ (bitAnd (byteOf f) 247, byteOf (withD false f)) ∷ (bitOr (byteOf f) 8, byteOf (withD true f)) ∷
+    (bitAnd (byteOf f) 254, byteOf (withC false f)) ∷ (bitOr (byteOf f) 1, byteOf (withC true f)) ∷
+    (bitOr (byteOf f) 4, byteOf (withI true f)) ∷ (bitAnd (byteOf f) 191, byteOf (withV false f)) ∷
+    (bitAnd (byteOf f) 247, byteOf (withD false f)) ∷ (bitOr (byteOf f) 8, byteOf (withD true f)) ∷
     []
 
 abbrev Each : List (ℕ × ℕ) → Type 0

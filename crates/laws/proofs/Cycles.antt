@@ -94,7 +94,8 @@ pub record Ended {U W A : Type 0} (R : U → W → Type 0) (x : Ran U A) (y : Ra
   pub after : R (x .after) (y .after)
   pub list : x .list ≡ y .list
 
-ended-listed : {U W A : Type 0} {R : U → W → Type 0} {x : Ran U A} {y : Ran W A} (a b : Access) → a ≡ b → Ended R x y → Ended R (listed a x) (listed b y)
+ended-listed : {U W A : Type 0} {R : U → W → Type 0} {x : Ran U A} {y : Ran W A} (a b : Access) → a ≡ b →
+    Ended R x y → Ended R (listed a x) (listed b y)
 ended-listed a b e h = record { value = h .value; after = h .after; list = cc }
 
 pub run-alike : {U W A : Type 0} {d : Device U} {e : Device W} {R : U → W → Type 0} → Alike d e R → (t : Cycles A) (v : U) (w : W) → R v w →

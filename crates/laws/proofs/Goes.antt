@@ -67,7 +67,8 @@ unfolding _>>=_
 then-read f d e = then-call f d e
 
 pub then-write : {A : Type 0} {κ : Bank} {p v : ℕ} (t : Cycles A) {k n m : ℕ} {u u′ u″ : Bus} {i l i′ l′ i″ l″ : List ℕ} {a : A} →
-    Goes {A = Unit {0}} (write κ p v (done tt)) k u i l tt n u′ i′ l′ → Goes t n u′ i′ l′ a m u″ i″ l″ → Goes (write κ p v t) k u i l a m u″ i″ l″
+    Goes {A = Unit {0}} (write κ p v (done tt)) k u i l tt n u′ i′ l′ → Goes t n u′ i′ l′ a m u″ i″ l″ →
+    Goes (write κ p v t) k u i l a m u″ i″ l″
 unfolding _>>=_
 then-write t d e = then-call (λ x. t) d e
 

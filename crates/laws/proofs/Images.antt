@@ -31,7 +31,8 @@ pub record Holds (l : List ℕ) (f : Chart) : Type 0 where
 holds-poke : (l : List ℕ) (f : Chart) → Holds l f → (i v : ℕ) → Holds (set l i v) (poked f i v)
 holds-poke l f h i v = record { size = length-set l i v ∙ h .size; bytes = λ j. go j (ℕ-discrete j i) (ltb i (f .size)) refl }
   where
-    go : (j : ℕ) → Dec (j ≡ i) → (b : Bool) → ltb i (f .size) ≡ b → at (set l i v) j ≡ (if eqb j i && ltb i (f .size) then v else f .byteAt j)
+    go : (j : ℕ) → Dec (j ≡ i) → (b : Bool) → ltb i (f .size) ≡ b →
+        at (set l i v) j ≡ (if eqb j i && ltb i (f .size) then v else f .byteAt j)
     go j (yes e) true q = rw (e, eq-eqb i i refl, q) (getD-set-same l i v 0 (rw (h .size) (ltb-true i (f .size) q)))
     go j (yes e) false q = rw (e, eq-eqb i i refl, q, set-out l i v (rw (h .size) (ltb-false i (f .size) q))) (h .bytes i)
     go j (no d) b q = rw (ne-eqb j i d) (getD-set-other l i j v 0 d ∙ h .bytes j)
@@ -54,7 +55,8 @@ kept-shown v w s first x = record { bus = ap (λ (b : Bus). withRegisters (narro
 kept-shown v w s second x = record { bus = ap (λ (b : Bus). withRegisters (b .first) (narrow (b .part) x) b) (s .bus); image = s .image }
 kept-shown v w s (ofImage n) x = record { bus = s .bus; image = holds-poke (v .image) (w .image) (s .image) n x }
 
-stored-shown : (v : World (List ℕ)) (w : World Chart) → Shown v w → (k : Bank) (p x : ℕ) → Shown (stored images v k p x) (stored charts w k p x)
+stored-shown : (v : World (List ℕ)) (w : World Chart) → Shown v w → (k : Bank) (p x : ℕ) →
+    Shown (stored images v k p x) (stored charts w k p x)
 unfolding stored
 stored-shown v w s k p x =
     rw (ap (λ (b : Bus). isProtected (b .protected) p) (s .bus), ap (λ (b : Bus). cellOf b k p) (s .bus))
@@ -66,7 +68,8 @@ boards-alike = record { bank = λ v w s k. ap (λ (b : Bus). selected b k) (s .b
 module _ (m : List ℕ) (f : Chart) (h : Holds m f) where
   ran-alike : (e : Event) (u : State) → Ended Shown (ranOf images e u m) (ranOf charts e u f)
   ran-alike e u =
-      run-alike boards-alike (cyclesOf e (u .cpu)) (world (busAt e (u .bus)) m) (world (busAt e (u .bus)) f) (record { bus = refl; image = h })
+      run-alike boards-alike (cyclesOf e (u .cpu)) (world (busAt e (u .bus)) m) (world (busAt e (u .bus)) f)
+      (record { bus = refl; image = h })
 
   opcode-same : (u : State) → opcodeOf images u m ≡ opcodeOf charts u f
   opcode-same u = look-shown (world (u .bus) m) (world (u .bus) f) (record { bus = refl; image = h }) execution (u .cpu .pc)
@@ -101,6 +104,7 @@ step-same r m f lines pins buffer h =
     let u = stateNow charts r f lines pins in
     let e = eventNow charts r f lines pins in
     rw (h .size, can-same m f h e u, opcode-same m f h u)
-    (tested-both SameStep (stepTests charts r f lines pins buffer) (refused images r m lines pins buffer) (refused charts r f lines pins buffer) _ _
+    (tested-both SameStep (stepTests charts r f lines pins buffer) (refused images r m lines pins buffer)
+    (refused charts r f lines pins buffer) _ _
     (λ d. record { answer = refl; state = refl; image = h; accesses = refl })
     (finished-same lines u buffer _ _ (ran-alike m f h e u)))

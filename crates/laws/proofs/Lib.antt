@@ -1,4 +1,5 @@
--- What follows from the definitions of rules, of every step, run, record and restart file, and how functions that follow a tree are put together.
+-- What follows from the definitions of rules, of every step, run, record and restart file, and how functions that follow a tree are
+-- put together.
 pub mod Tests
 pub mod Lists
 pub mod Cycles

@@ -1,5 +1,5 @@
--- A well-formed record read and written again is the same sixteen bytes, and a state written and read again is the same state. Every state that
--- a step writes is well formed.
+-- A well-formed record read and written again is the same sixteen bytes, and a state written and read again is the same state. Every
+-- state that a step writes is well formed.
 use Prim.Native.Nat.{ℕ, zero, suc, _+_, _/_, _%_, _<_, _≤_}
 use native.Mathlib.Omega.{arith}
 use mathlib.Core.Path.{_≡_, refl, sym, ap, _∙_}
@@ -127,7 +127,14 @@ bits f =
 pub flags-again : (f : Flags) → flagsOf (byteOf f) ≡ f
 flags-again f =
     let b = bits f in
-    rw (bit-is (f .n) _ (b .n), bit-is (f .v) _ (b .v), bit-is (f .d) _ (b .d), bit-is (f .i) _ (b .i), bit-is (f .z) _ (b .z), bit-is (f .c) _ (b .c))
+    rw (
+      bit-is (f .n) _ (b .n),
+      bit-is (f .v) _ (b .v),
+      bit-is (f .d) _ (b .d),
+      bit-is (f .i) _ (b .i),
+      bit-is (f .z) _ (b .z),
+      bit-is (f .c) _ (b .c),
+    )
 
 pub read-again : (u : State) → stateOf (recordOf u) (u .bus .pins) (u .bus .banks) ≡ u
 unfolding recordOf stateOf
@@ -172,7 +179,8 @@ module _ {M : Type 0} (memory : Memory M) (k c : ℕ) where
 
       go : (h : Bool) → (is6508 (w .bus .part) || is6509 (w .bus .part)) ≡ h → (a b : Bool) →
           Fit k c
-          (kept memory w (if h then if a then first else if b then second else ofImage (imageAt (w .bus) n p) else ofImage (imageAt (w .bus) n p)) v .bus)
+          (kept memory w (if h then if a then first else if b then second else ofImage (imageAt (w .bus) n p)
+          else ofImage (imageAt (w .bus) n p)) v .bus)
       go true e true b = record { part = f .part; protected = f .protected; first = fits e; second = f .second }
       go true e false true = record { part = f .part; protected = f .protected; first = f .first; second = fits e }
       go true e false false = f
@@ -180,7 +188,8 @@ module _ {M : Type 0} (memory : Memory M) (k c : ℕ) where
 
   stored-fit : (w : World M) (n : Bank) (p v : ℕ) → Fit k c (w .bus) → Fit k c (stored memory w n p v .bus)
   unfolding stored
-  stored-fit w n p v f = if-case (λ (u : World M). Fit k c (u .bus)) (isProtected (w .bus .protected) p) _ _ (λ h. f) (λ h. kept-fit w n p v f)
+  stored-fit w n p v f = if-case (λ (u : World M). Fit k c (u .bus)) (isProtected (w .bus .protected) p) _ _
+      (λ h. f) (λ h. kept-fit w n p v f)
 
   bus-fit : (e : Event) (b : Bus) → Fit k c b → Fit k c (busAt e b)
   unfolding resetBus
@@ -193,7 +202,8 @@ module _ {M : Type 0} (memory : Memory M) (k c : ℕ) where
 
   pub ran-fit : (e : Event) (u : State) (m : M) → Fit k c (u .bus) → Fit k c (ranOf memory e u m .after .bus)
   ran-fit e u m f =
-      run-keeps (board memory) (λ (w : World M). Fit k c (w .bus)) stored-fit (cyclesOf e (u .cpu)) (world (busAt e (u .bus)) m) (bus-fit e (u .bus) f)
+      run-keeps (board memory) (λ (w : World M). Fit k c (w .bus)) stored-fit (cyclesOf e (u .cpu))
+      (world (busAt e (u .bus)) m) (bus-fit e (u .bus) f)
 
   four-bits : (v : ℕ) → registerFits k v ≡ true → is6509 k ≡ true → v < 16
   four-bits v h e = go (is6502 k) h
@@ -233,4 +243,11 @@ unfolding recordOf
 state-formed u k c f part pages level =
     well-formed (recordOf u)
     (rw (f .part, f .protected)
-    (record { part = part; flags = eq-eqb _ _ (bits (u .cpu .p) .fixed); first = f .first; second = f .second; level = level; pages = pages }))
+    (record {
+      part = part;
+      flags = eq-eqb _ _ (bits (u .cpu .p) .fixed);
+      first = f .first;
+      second = f .second;
+      level = level;
+      pages = pages;
+    }))

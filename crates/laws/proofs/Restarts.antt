@@ -75,7 +75,11 @@ module _ (rs : List (List ℕ)) (file : List ℕ) (w : Whole rs file) where
       let a = length-take k file in
       let b = length-drop m rs in
       let begins = take-take (16 * length (drop m rs)) k file (omega arith) in
-      record { size = omega arith; most = omega arith; stand = stand-kept (drop m rs) file (take k file) begins (stand-older m rs file (w .stand)) }
+      record {
+        size = omega arith;
+        most = omega arith;
+        stand = stand-kept (drop m rs) file (take k file) begins (stand-older m rs file (w .stand));
+      }
 
   -- an append of t, whole or cut: it goes behind the whole records, and leaves them as they are
   module _ (p : ℕ) (place : p ≡ wholeOf (length file)) (t : List ℕ) where
@@ -126,7 +130,8 @@ whole-found (r ∷ rs) file w =
     let e : lastOf (length file) ≡ 16 * length rs = omega (arith, w .size) in
     rw (le-leb 16 (length file) (omega (arith, w .size)), le-leb (length file) 65536 (w .most), e, w .stand .0)
 
--- the law: the answer, and never a mixture, for the bytes at the place found are that record, and each older record still stands at its own place
+-- the law: the answer, and never a mixture, for the bytes at the place found are that record, and each older record still stands at
+-- its own place
 pub record FindsLast (rs : List (List ℕ)) (file : List ℕ) : Type 0 where
   pub answer : restart file ≡ answerOf rs (length file % 16)
   pub bytes : Stand rs file

@@ -45,7 +45,14 @@ module _ {M : Type 0} (memory : Memory M) where
 
     further-size : length (take i (s .accesses) ++ o .accesses) ≡ length (s .accesses)
     further-size =
-        omega (arith, length-append (take i (s .accesses)) (o .accesses), length-take-le i (s .accesses) (q .within), done .size, length-drop i (s .accesses), q .within)
+        omega (
+          arith,
+          length-append (take i (s .accesses)) (o .accesses),
+          length-take-le i (s .accesses) (q .within),
+          done .size,
+          length-drop i (s .accesses),
+          q .within,
+        )
 
     further-sound : Sound (further memory s o n)
     further-sound =
@@ -76,11 +83,14 @@ module _ {M : Type 0} (memory : Memory M) where
     where
       go : (a : StepAnswer) → stepAt memory lines pins s .answer ≡ a → ((t : Outcome Tally M) → Sound t → Kept t (play memory script t)) →
           Kept s (continued memory (play memory script) s (stepAt memory lines pins s) a)
-      go (Stepped n) e rest = further-kept lines pins s n q e (play memory script (further memory s (stepAt memory lines pins s) n)) (rest _ (further-sound lines pins s n q e))
+      go (Stepped n) e rest =
+          further-kept lines pins s n q e (play memory script (further memory s (stepAt memory lines pins s) n))
+          (rest _ (further-sound lines pins s n q e))
       go (Refused d) e rest = ended-kept s _ q
 
   -- what a step listed stands there when all later steps are done
-  module _ (lines pins : ℕ) (script : List ℕ) (s : Outcome Tally M) (n : ℕ) (q : Sound s) (e : stepAt memory lines pins s .answer ≡ Stepped n) where
+  module _ (lines pins : ℕ) (script : List ℕ) (s : Outcome Tally M) (n : ℕ) (q : Sound s)
+      (e : stepAt memory lines pins s .answer ≡ Stepped n) where
     abbrev before : List ℕ
     before = take (8 * s .answer .listed) (s .accesses)
 

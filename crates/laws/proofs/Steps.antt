@@ -92,7 +92,8 @@ module _ {M : Type 0} (memory : Memory M) (r : List â„•) (m : M) (lines pins : â
         most = seven;
         cycles = omega arith;
         record-size = refl;
-        record-formed = state-formed (stateAfter memory lines u ran) (at r 0) (at r 11) g (f .part) (f .pages) (level-fits (at r 0) lines pins fit);
+        record-formed = state-formed (stateAfter memory lines u ran) (at r 0) (at r 11) g (f .part) (f .pages)
+            (level-fits (at r 0) lines pins fit);
         part = g .part;
         pages = g .protected;
         room = omega arith;

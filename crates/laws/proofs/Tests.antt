@@ -38,7 +38,8 @@ pub if-case : {A : Type 0} (P : A → Type 0) (b : Bool) (x y : A) → (b ≡ tr
 if-case P true x y p q = p refl
 if-case P false x y p q = q refl
 
-pub if-both : {A B : Type 0} (R : A → B → Type 0) (b : Bool) (x y : A) (v w : B) → R x v → R y w → R (if b then x else y) (if b then v else w)
+pub if-both : {A B : Type 0} (R : A → B → Type 0) (b : Bool) (x y : A) (v w : B) → R x v → R y w →
+    R (if b then x else y) (if b then v else w)
 if-both R true x y v w p q = p
 if-both R false x y v w p q = q
 
@@ -64,6 +65,7 @@ tested-both R [] p q x y r h = h
 tested-both R (t ∷ ts) p q x y r h = if-both R (t .holds) _ _ _ _ (tested-both R ts p q x y r h) (r (t .refusal))
 
 -- tests in order, and more of them
-pub tested-append : {A : Type 0} (ts us : List Test) (refuse : Refusal → A) (a : A) → tested (ts ++ us) refuse a ≡ tested ts refuse (tested us refuse a)
+pub tested-append : {A : Type 0} (ts us : List Test) (refuse : Refusal → A) (a : A) →
+    tested (ts ++ us) refuse a ≡ tested ts refuse (tested us refuse a)
 tested-append [] us refuse a = refl
 tested-append (t ∷ ts) us refuse a = rw (tested-append ts us refuse a)

@@ -74,7 +74,8 @@ text-same r lines pins m f size h =
     let s = step-same r m f lines pins (replicate 56 0) h in rw (s .answer, s .state, s .accesses)
 
 -- "standard input is record, lines, pins, image"
-pub printed-parts : (r m : List ℕ) (lines pins : ℕ) → length r ≡ 16 → printed (r ++ lines ∷ pins ∷ m) ≡ textOf images r lines pins m (length m + 18)
+pub printed-parts : (r m : List ℕ) (lines pins : ℕ) → length r ≡ 16 →
+    printed (r ++ lines ∷ pins ∷ m) ≡ textOf images r lines pins m (length m + 18)
 printed-parts r m lines pins e =
     let i = r ++ lines ∷ pins ∷ m in
     let behind : (k n : ℕ) → length r + k ≡ n → at i n ≡ at (lines ∷ pins ∷ m) k =

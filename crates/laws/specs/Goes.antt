@@ -1,4 +1,5 @@
--- What a function makes of a tree of accesses: it ends as the rules' run of the tree does, and its accesses stand in the list from number k on.
+-- What a function makes of a tree of accesses: it ends as the rules' run of the tree does, and its accesses stand in the list from
+-- number k on.
 use Prim.Native.Nat.{ℕ, _+_, _*_}
 use mathlib.Core.Path.{_≡_}
 use mathlib.Core.List.{List}

@@ -38,11 +38,14 @@ steps =
     ∷ (let o = runs (state 8 7 0 0x00 0x20 0x8000) (zeros 1 from 0x8000 holds (0x48 ∷ [])) in
     writes o 2 0x0100 0 7 && keeps o 0 7 && keeps o 0x0100 0 && eqb (at (o .state) 8) 0)
     -- 9 6509: LDA (10),Y reads its pointer in the execution bank and its data in the indirect one, modulo k; CMP (10),Y stays
-    ∷ (let o = runs (registers 2 5 (state 9 0 0 0xFF 0x20 0x8000)) (zeros 2 from 0x8000 holds (0xB1 ∷ 0x10 ∷ []) from 0x0011 holds (0x90 ∷ []) from 0x19000 holds (0x77 ∷ [])) in
+    ∷ (let o = runs (registers 2 5 (state 9 0 0 0xFF 0x20 0x8000))
+    (zeros 2 from 0x8000 holds (0xB1 ∷ 0x10 ∷ []) from 0x0011 holds (0x90 ∷ []) from 0x19000 holds (0x77 ∷ [])) in
     results o 5 0x77 0xFF 0x20 && reads o 3 0x0011 2 0x90 && reads o 4 0x9000 5 0x77)
-    ∷ reads (runs (registers 2 5 (state 9 0 0 0xFF 0x20 0x8000)) (zeros 2 from 0x8000 holds (0xD1 ∷ 0x10 ∷ []) from 0x0011 holds (0x90 ∷ []))) 4 0x9000 2 0
+    ∷ reads (runs (registers 2 5 (state 9 0 0 0xFF 0x20 0x8000))
+    (zeros 2 from 0x8000 holds (0xD1 ∷ 0x10 ∷ []) from 0x0011 holds (0x90 ∷ []))) 4 0x9000 2 0
     -- 11 6509: STA (10),Y makes its last two accesses in the indirect bank
-    ∷ (let o = runs (registers 2 5 (state 9 7 0 0xFF 0x20 0x8000)) (zeros 2 from 0x8000 holds (0x91 ∷ 0x10 ∷ []) from 0x0011 holds (0x90 ∷ [])) in
+    ∷ (let o = runs (registers 2 5 (state 9 7 0 0xFF 0x20 0x8000))
+    (zeros 2 from 0x8000 holds (0x91 ∷ 0x10 ∷ []) from 0x0011 holds (0x90 ∷ [])) in
     reads o 4 0x9000 5 0 && writes o 5 0x9000 5 7 && keeps o 0x19000 7)
     -- 12 6509: "a write is listed whole, its high bits dropped"; "Register writes leave the image byte beneath unchanged"
     ∷ (let o = runs (registers 2 0 (state 9 0xF7 0 0xFF 0x20 0x8000)) (zeros 1 from 0x8000 holds (0x85 ∷ 0x01 ∷ [])) in
@@ -57,13 +60,16 @@ steps =
     ∷ results (tried (set (state 2 7 0 0xFF 0x20 0x8000) 10 1) (zeros 1 from 0x8000 holds (0xEA ∷ [])) 2 0) 2 7 0xFF 0x20
     -- 17 RES before NMI, whose edge is lost; three stack reads, FFFC, D kept; a 6509's registers are 15 before the first access, a 6508's 0
     ∷ (let o = tried (registers 1 2 (state 9 7 0 0x01 0x28 0x8000)) (zeros 1 from 0xFFFC holds (0x34 ∷ 0x12 ∷ [])) 3 0 in
-    results o 7 7 0xFE 0x2C && reads o 0 0x8000 15 0 && reads o 4 0x01FF 15 0 && reads o 5 0xFFFC 15 0x34 && eqb (at (o .state) 10) 1 && eqb (at (o .state) 8) 15)
+    results o 7 7 0xFE 0x2C && reads o 0 0x8000 15 0 && reads o 4 0x01FF 15 0 && reads o 5 0xFFFC 15 0x34
+    && eqb (at (o .state) 10) 1 && eqb (at (o .state) 8) 15)
     ∷ same (take 2 (drop 8 (tried (registers 1 2 (state 8 7 0 0x01 0x28 0x8000)) (zeros 1) 1 0 .state))) (0 ∷ 0 ∷ [])
     -- 19 BRK pushes PC+2 and P with bit 4 set; PHP pushes bits 4, 5 set
-    ∷ (let o = on 7 0 0xFF 0x20 (0x00 ∷ []) in results o 7 7 0xFC 0x24 && writes o 3 0x01FE 0 0x02 && writes o 4 0x01FD 0 0x30 && reads o 5 0xFFFE 0 0)
+    ∷ (let o = on 7 0 0xFF 0x20 (0x00 ∷ []) in
+    results o 7 7 0xFC 0x24 && writes o 3 0x01FE 0 0x02 && writes o 4 0x01FD 0 0x30 && reads o 5 0xFFFE 0 0)
     ∷ writes (on 7 0 0xFF 0x24 (0x08 ∷ [])) 2 0x01FF 0 0x34
     -- 21 JMP (80FF) takes its high byte from "the next location"
-    ∷ pcIs (runs (state 2 0 0 0 0x20 0x8000) (zeros 1 from 0x8000 holds (0x6C ∷ 0xFF ∷ 0x80 ∷ []) from 0x80FF holds (0x34 ∷ 0x12 ∷ []))) 0x34 0x12
+    ∷ pcIs (runs (state 2 0 0 0 0x20 0x8000)
+    (zeros 1 from 0x8000 holds (0x6C ∷ 0xFF ∷ 0x80 ∷ []) from 0x80FF holds (0x34 ∷ 0x12 ∷ []))) 0x34 0x12
     -- 22 JSR at 01FD, S = FF, reads its high operand after the pushes
     ∷ reads (runs (state 2 0 0 0xFF 0x20 0x01FD) (zeros 1 from 0x01FD holds (0x20 ∷ 0x34 ∷ 0x12 ∷ []))) 5 0x01FF 0 0x01
     -- 23 RTS reads where it returns to, and PC is one more; RTI goes there itself
@@ -73,7 +79,8 @@ steps =
     results o 6 7 0xFF 0xEF && pcIs o 0x34 0x12)
     -- 25 z,X wraps in page zero; (z,X) reads unindexed first; (FF),Y takes its pointer's high byte at 0000
     ∷ reads (on 0 0x02 0 0x20 (0xB5 ∷ 0xFF ∷ [])) 3 0x0001 0 0
-    ∷ (let o = on 0 0x02 0 0x20 (0xA1 ∷ 0xFD ∷ []) in results o 6 0 0 0x22 && reads o 2 0x00FD 0 0 && reads o 3 0x00FF 0 0 && reads o 4 0x0000 0 0)
+    ∷ (let o = on 0 0x02 0 0x20 (0xA1 ∷ 0xFD ∷ []) in
+    results o 6 0 0 0x22 && reads o 2 0x00FD 0 0 && reads o 3 0x00FF 0 0 && reads o 4 0x0000 0 0)
     ∷ reads (on 0 0 0 0x20 (0xB1 ∷ 0xFF ∷ [])) 3 0x0000 0 0
     -- 28 shifts set N, Z, C: ROR A of 01 with C, LSR, ASL, ROL
     ∷ results (on 0x01 0 0 0x21 (0x6A ∷ [])) 2 0x80 0 0xA1
@@ -91,7 +98,8 @@ steps =
     ∷ results (runs (state 2 7 0 0xFF 0x20 0x80FE) (zeros 1 from 0x80FE holds (0xD0 ∷ 0x00 ∷ []))) 3 7 0xFF 0x20
     ∷ results (runs (state 2 7 0 0xFE 0x20 0x8000) (zeros 1 from 0x8000 holds (0x68 ∷ []) from 0x01FF holds (0x80 ∷ []))) 4 0x80 0xFF 0xA0
     -- 39 the cycle count is 511 and then 513, "low byte first"
-    ∷ same (drop 12 (runs (set (set (state 2 0 0 0 0x20 0x8000) 12 0xFF) 13 0x01) (zeros 1 from 0x8000 holds (0xEA ∷ [])) .state)) (0x01 ∷ 0x02 ∷ 0 ∷ 0 ∷ [])
+    ∷ same (drop 12 (runs (set (set (state 2 0 0 0 0x20 0x8000) 12 0xFF) 13 0x01) (zeros 1 from 0x8000 holds (0xEA ∷ [])) .state))
+    (0x01 ∷ 0x02 ∷ 0 ∷ 0 ∷ [])
     ∷ []
 
 computed-steps : failing 1 steps ≡ []
@@ -120,9 +128,11 @@ refusals =
     -- 15 a run: 3 before 7, 7 before anything; one step stands and is counted, the next is undefined
     ∷ eqb (runWords (runOf charts (state 2 0 0 0 0x20 0x8000) (zeros 2) (0 ∷ []) [] .answer) .word) 3
     ∷ eqb (runWords (runOf charts (state 2 0 0 0 0x20 0x8000) (zeros 1) (0 ∷ []) [] .answer) .word) 7
-    ∷ (let o = runOf charts (state 2 0 0 0 0x20 0x8000) (zeros 1 from 0x8000 holds (0xEA ∷ 0x02 ∷ [])) (0 ∷ 0 ∷ 0 ∷ 0 ∷ []) (replicate 72 9) in
+    ∷ (let o = runOf charts (state 2 0 0 0 0x20 0x8000) (zeros 1 from 0x8000 holds (0xEA ∷ 0x02 ∷ []))
+    (0 ∷ 0 ∷ 0 ∷ 0 ∷ []) (replicate 72 9) in
     let w = runWords (o .answer) in
-    same (w .word ∷ w .steps ∷ w .listed ∷ at (o .state) 12 ∷ at (o .accesses) 15 ∷ at (o .accesses) 16 ∷ []) (0x80010206 ∷ 1 ∷ 2 ∷ 2 ∷ 0 ∷ 9 ∷ []))
+    same (w .word ∷ w .steps ∷ w .listed ∷ at (o .state) 12 ∷ at (o .accesses) 15 ∷ at (o .accesses) 16 ∷ [])
+    (0x80010206 ∷ 1 ∷ 2 ∷ 2 ∷ 0 ∷ 9 ∷ []))
     -- 18 restart: 8 under 16 bytes; 2 for the last whole record; its place and the tail; 8 where an append would pass 65,536 bytes
     ∷ eqb (restartWord (restart (replicate 15 2))) 8
     ∷ eqb (restartWord (restart (replicate 16 2))) 2

@@ -1,4 +1,5 @@
--- "Starred ones are proved of the rules as one list under a single claim". They are computed on charts; Images.antt carries a step to images.
+-- "Starred ones are proved of the rules as one list under a single claim". They are computed on charts; Images.antt carries a step to
+-- images.
 use Prim.Native.Nat.{ℕ, suc, _*_, _/_, _%_}
 use Prim.Native.Char.{code}
 use Prim.Native.String.{String, [] as none, _∷_ as _then_}
@@ -100,7 +101,8 @@ starred =
     ∷ results (runs (state 2 7 0 0xFE 0x20 0x8000) (zeros 1 from 0x8000 holds (0x28 ∷ []) from 0x01FF holds (0xFF ∷ []))) 4 7 0xFF 0xEF
     ∷ results (runs (state 2 7 0 0xFE 0xE3 0x8000) (zeros 1 from 0x8000 holds (0x28 ∷ []))) 4 7 0xFF 0x20
     -- 6508, direction 0F, output A5, pins 5A: reads 55
-    ∷ results (tried (registers 0x0F 0xA5 (state 8 7 0 0xFF 0x20 0x8000)) (zeros 1 from 0x8000 holds (0xA5 ∷ 0x01 ∷ [])) 0 0x5A) 3 0x55 0xFF 0x20
+    ∷ results (tried (registers 0x0F 0xA5 (state 8 7 0 0xFF 0x20 0x8000)) (zeros 1 from 0x8000 holds (0xA5 ∷ 0x01 ∷ [])) 0 0x5A)
+    3 0x55 0xFF 0x20
     -- 6509, execution bank 2, E6 00: writes 02, then 03; bank 3 next
     ∷ (let o = runs (registers 2 0 (state 9 7 0 0xFF 0x20 0x8000)) (zeros 1 from 0x8000 holds (0xE6 ∷ 0x00 ∷ [])) in
     results o 5 7 0xFF 0x20 && writes o 3 0x0000 2 0x02 && writes o 4 0x0000 2 0x03 && eqb (at (o .state) 8) 3)

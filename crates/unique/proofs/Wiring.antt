@@ -9,7 +9,8 @@ use Rattle.wiring.proofs as its
 use Rattle.unique.proofs.General.{UniqueWhere, answer}
 use Rattle.unique.proofs.Relations.{wired}
 
-pub wire : (s : State) → UniqueWhere its.wire.Kinds.ps its.wire.Kinds.r (λ κs a. Begins s (now (a .0)) (a .1 .0) (a .1 .1 .0)) its.wire.Reads.Post
+pub wire : (s : State) →
+    UniqueWhere its.wire.Kinds.ps its.wire.Kinds.r (λ κs a. Begins s (now (a .0)) (a .1 .0) (a .1 .1 .0)) its.wire.Reads.Post
 wire s κs a h x y p q =
     answer
     refl

@@ -56,7 +56,8 @@ below (the6502 e) h l = rw e
 below (the6508 e) h l = let g : 512 ≤ _ = rw e at h in absurd (omega arith)
 below (the6509 e) h l = let g : 2 ≤ _ = rw e at h in absurd (omega arith)
 
-pub cell-register : (κ : Bank) (u : Bus) (p : ℕ) → Part (u .part) → p < 2 → 0 < plainOf (u .part) → cellOf u κ p ≡ (if eqb p 0 then first else second)
+pub cell-register : (κ : Bank) (u : Bus) (p : ℕ) → Part (u .part) → p < 2 → 0 < plainOf (u .part) →
+    cellOf u κ p ≡ (if eqb p 0 then first else second)
 unfolding cellOf
 cell-register κ u p (the6502 e) h some = let l : 0 < 0 = rw e at some in absurd (omega arith)
 cell-register κ u p (the6508 e) h some = rw e (low-cell p _ h)

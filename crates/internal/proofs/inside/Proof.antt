@@ -16,7 +16,8 @@ returns-2 c = λ s e. rw (c .before .enum-told2 .given .1, e, masked (s .cpu .p)
 
 returns-3 : tie.Need-returns-3
 unfolding inside recordOf
-returns-3 c = λ s e. rw (c .before .before .before .before .before .enum-told3 .given .1) (makes-to 2 (holds s e .s) (c .before .before .to .ensures) s e)
+returns-3 c = λ s e.
+    rw (c .before .before .before .before .before .enum-told3 .given .1) (makes-to 2 (holds s e .s) (c .before .before .to .ensures) s e)
 
 returns-4 : tie.Need-returns-4
 unfolding inside recordOf
@@ -24,7 +25,8 @@ returns-4 c = λ s e. rw (c .before .enum-told4 .given .1, e, masked (s .cpu .p)
 
 returns-5 : tie.Need-returns-5
 unfolding inside recordOf
-returns-5 c = λ s e. rw (c .before .before .before .before .before .enum-told5 .given .1) (makes-to 1 (holds s e .y) (c .before .before .to2 .ensures) s e)
+returns-5 c = λ s e.
+    rw (c .before .before .before .before .before .enum-told5 .given .1) (makes-to 1 (holds s e .y) (c .before .before .to2 .ensures) s e)
 
 returns-6 : tie.Need-returns-6
 unfolding inside recordOf
@@ -40,18 +42,21 @@ returns-8 c = λ s e. rw (c .before .enum-told8 .given .1, e, masked (s .cpu .p)
 
 returns-9 : tie.Need-returns-9
 unfolding inside recordOf
-returns-9 c = λ s e. rw (c .before .before .before .before .before .enum-told9 .given .1) (makes-to 1 (holds s e .x) (c .before .before .to3 .ensures) s e)
+returns-9 c = λ s e.
+    rw (c .before .before .before .before .before .enum-told9 .given .1) (makes-to 1 (holds s e .x) (c .before .before .to3 .ensures) s e)
 
 returns-10 : tie.Need-returns-10
 unfolding inside recordOf
-returns-10 c = λ s e. rw (c .before .before .before .before .before .enum-told10 .given .1) (makes-to 2 (holds s e .a) (c .before .before .to4 .ensures) s e)
+returns-10 c = λ s e.
+    rw (c .before .before .before .before .before .enum-told10 .given .1) (makes-to 2 (holds s e .a) (c .before .before .to4 .ensures) s e)
 
 returns-11 : tie.Need-returns-11
 unfolding inside recordOf
 returns-11 c =
     let at-one-less = c .before .before .before in
     let at-enum-told11 = at-one-less .before .before .before in
-    λ s e. rw (at-enum-told11 .enum-told11 .given .1) (rw (holds s e .x) at (makes-to 2 (at-one-less .one-less .ensures) (c .before .before .to5 .ensures) s e))
+    λ s e. rw (at-enum-told11 .enum-told11 .given .1)
+    (rw (holds s e .x) at (makes-to 2 (at-one-less .one-less .ensures) (c .before .before .to5 .ensures) s e))
 
 returns-12 : tie.Need-returns-12
 unfolding inside
@@ -62,25 +67,29 @@ unfolding inside recordOf
 returns-13 c =
     let at-one-less2 = c .before .before .before in
     let at-enum-told13 = at-one-less2 .before .before .before in
-    λ s e. rw (at-enum-told13 .enum-told13 .given .1) (rw (holds s e .y) at (makes-to 3 (at-one-less2 .one-less2 .ensures) (c .before .before .to6 .ensures) s e))
+    λ s e. rw (at-enum-told13 .enum-told13 .given .1)
+    (rw (holds s e .y) at (makes-to 3 (at-one-less2 .one-less2 .ensures) (c .before .before .to6 .ensures) s e))
 
 returns-14 : tie.Need-returns-14
 unfolding inside recordOf
-returns-14 c = λ s e. rw (c .before .before .before .before .before .enum-told14 .given .1) (makes-to 3 (holds s e .a) (c .before .before .to7 .ensures) s e)
+returns-14 c = λ s e.
+    rw (c .before .before .before .before .before .enum-told14 .given .1) (makes-to 3 (holds s e .a) (c .before .before .to7 .ensures) s e)
 
 returns-15 : tie.Need-returns-15
 unfolding inside recordOf
 returns-15 c =
     let at-one-more = c .before .before .before in
     let at-enum-told15 = at-one-more .before .before .before in
-    λ s e. rw (at-enum-told15 .enum-told15 .given .1) (rw (holds s e .y) at (makes-to 3 (at-one-more .one-more .ensures) (c .before .before .to8 .ensures) s e))
+    λ s e. rw (at-enum-told15 .enum-told15 .given .1)
+    (rw (holds s e .y) at (makes-to 3 (at-one-more .one-more .ensures) (c .before .before .to8 .ensures) s e))
 
 returns-16 : tie.Need-returns-16
 unfolding inside recordOf
 returns-16 c =
     let at-one-more2 = c .before .before .before in
     let at-enum-told16 = at-one-more2 .before .before .before in
-    λ s e. rw (at-enum-told16 .enum-told16 .given .1) (rw (holds s e .x) at (makes-to 2 (at-one-more2 .one-more2 .ensures) (c .before .before .to9 .ensures) s e))
+    λ s e. rw (at-enum-told16 .enum-told16 .given .1)
+    (rw (holds s e .x) at (makes-to 2 (at-one-more2 .one-more2 .ensures) (c .before .before .to9 .ensures) s e))
 
 pub inside-spec : {M : Type 1} → statement M
 inside-spec =
