@@ -1,52 +1,11 @@
 // What is done inside the processor, without a byte that was read.
 
-use rules::Flags;
 use rules::Internal;
 ghost use Prim.Native.Nat.{_+_, _%_};
 ghost use mathlib.Core.Path.{_≡_};
 ghost use lib.ListN.{length};
-ghost use Rattle.rules.specs.Flags.{withV, withD, withC};
 ghost use Rattle.rules.specs.Operations.{inside};
 ghost use Rattle.state.specs.Makes.{Makes};
-
-fn with_c(b: bool, f: Flags) -> Flags
-    ensures { λ r. ⌜ r ≡ withC b f ⌝ }
-{
-    Flags {
-        n: f.n,
-        v: f.v,
-        d: f.d,
-        i: f.i,
-        z: f.z,
-        c: b,
-    }
-}
-
-fn with_v(b: bool, f: Flags) -> Flags
-    ensures { λ r. ⌜ r ≡ withV b f ⌝ }
-{
-    Flags {
-        n: f.n,
-        v: b,
-        d: f.d,
-        i: f.i,
-        z: f.z,
-        c: f.c,
-    }
-}
-
-fn with_d(b: bool, f: Flags) -> Flags
-    ensures { λ r. ⌜ r ≡ withD b f ⌝ }
-{
-    Flags {
-        n: f.n,
-        v: f.v,
-        d: b,
-        i: f.i,
-        z: f.z,
-        c: f.c,
-    }
-}
 
 fn one_more(v: u8) -> u8
     ensures { λ r. ⌜ r ≡ (v + 1) % 256 ⌝ }
@@ -60,44 +19,26 @@ fn one_less(v: u8) -> u8
     std::num::wrapping_sub_u8(v, 1)
 }
 
-// Each operation reads the registers that it needs, and no others.
+// Each operation reads the registers that it needs, and no others. A flag is set or cleared where it stands in P.
 pub fn inside(o: Internal, state: &mut [u8])
     requires { ⌜ length (now state) ≡ 16 ⌝ }
     ensures { λ r. ⌜ Makes (inside o) (now (state .entry)) (now (state .exit)) ⌝ }
 {
     match o {
-        Internal::Clc => {
-            let f = state::flags_of(state);
-            state::set_flags(state, with_c(false, f))
-        }
-        Internal::Sec => {
-            let f = state::flags_of(state);
-            state::set_flags(state, with_c(true, f))
-        }
+        Internal::Clc => state[state::P] = state[state::P] & 254,
+        Internal::Sec => state[state::P] = state[state::P] | 1,
         Internal::Tsx => {
             let s = state[state::S];
             state::to(state, state::X, s)
         }
-        Internal::Sei => {
-            let f = state::flags_of(state);
-            state::set_flags(state, flags::with_i(true, f))
-        }
+        Internal::Sei => state[state::P] = state[state::P] | 4,
         Internal::Tya => {
             let y = state[state::Y];
             state::to(state, state::A, y)
         }
-        Internal::Clv => {
-            let f = state::flags_of(state);
-            state::set_flags(state, with_v(false, f))
-        }
-        Internal::Cld => {
-            let f = state::flags_of(state);
-            state::set_flags(state, with_d(false, f))
-        }
-        Internal::Sed => {
-            let f = state::flags_of(state);
-            state::set_flags(state, with_d(true, f))
-        }
+        Internal::Clv => state[state::P] = state[state::P] & 191,
+        Internal::Cld => state[state::P] = state[state::P] & 247,
+        Internal::Sed => state[state::P] = state[state::P] | 8,
         Internal::Txa => {
             let x = state[state::X];
             state::to(state, state::A, x)

@@ -189,7 +189,7 @@ fn branch(
     ensures { λ r. ⌜ (r ≤ 7) × ((s : State) → Stands execution s (now (state .entry)) w → pc ≡ s .cpu .pc → Does (perform (Branch t o) (past 2 (s .cpu))) 2 s (now (image .entry)) (now (list .entry)) r (now (state .exit)) (now (image .entry)) (now (list .exit))) ⌝ }
 {
     let next = std::num::wrapping_add_u16(pc, 2);
-    if taken(t, state[5]) {
+    if taken(t, state[state::P]) {
         let to = bytes::target(next, o);
         reads::read(state, w, image, list, 2, next);
         if to / 256 == next / 256 {

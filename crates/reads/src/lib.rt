@@ -1,4 +1,5 @@
-// Reads on the bus of the three parts: one at a time, each listed at its cycle's place, and an address by two. The state is the record's sixteen bytes.
+// Reads on the bus of the three parts: one at a time, each listed at its cycle's place, and an address by two. The state is the
+// record's sixteen bytes.
 
 use wiring::Wiring;
 ghost use Prim.Native.Nat.{_+_, _-_, _≤_, _<_};

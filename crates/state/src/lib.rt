@@ -8,7 +8,7 @@ ghost use lib.ListN.{length, set};
 ghost use Rattle.rules.specs.Basics.{at, address};
 ghost use Rattle.rules.specs.Flags.{flagsOf, byteOf, nz};
 
-// Where A, X, Y and S stand.
+// Where A, X, Y, S and P stand.
 pub const A: usize = 1;
 
 pub const X: usize = 2;
@@ -16,6 +16,8 @@ pub const X: usize = 2;
 pub const Y: usize = 3;
 
 pub const S: usize = 4;
+
+pub const P: usize = 5;
 
 pub fn pc_of(state: &[u8]) -> u16
     requires { ⌜ length (now state) ≡ 16 ⌝ }
@@ -43,14 +45,14 @@ pub fn flags_of(state: &[u8]) -> Flags
     requires { ⌜ length (now state) ≡ 16 ⌝ }
     ensures { λ r. ⌜ r ≡ flagsOf (at (now (state .entry)) 5) ⌝ }
 {
-    flags::flags_of(state[5])
+    flags::flags_of(state[P])
 }
 
 pub fn set_flags(state: &mut [u8], f: Flags)
     requires { ⌜ length (now state) ≡ 16 ⌝ }
     ensures { λ r. ⌜ now (state .exit) ≡ set (now (state .entry)) 5 (byteOf f) ⌝ }
 {
-    state[5] = flags::byte_of(f);
+    state[P] = flags::byte_of(f);
 }
 
 // A byte into a register of this place, and its N and Z.

@@ -1,4 +1,5 @@
-// Writes on the bus of the three parts: one at a time, each listed at its cycle's place, and PC pushed by two. The state is the record's sixteen bytes.
+// Writes on the bus of the three parts: one at a time, each listed at its cycle's place, and PC pushed by two. The state is the
+// record's sixteen bytes.
 
 use wiring::Wiring;
 ghost use Prim.Native.Nat.{_+_, _≤_, _<_};

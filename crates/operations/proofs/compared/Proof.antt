@@ -8,7 +8,8 @@ returns : tie.Need-returns
 returns c =
     let at-compare = c .before .before .before in
     let at-flags-of = at-compare .before .before in
-    λ s e. rw (at-flags-of .flags-of .ensures ∙ holds s e .p) at (makes-p (at-compare .compare .ensures) (c .before .before .set-flags .ensures) s e)
+    λ s e. rw (at-flags-of .flags-of .ensures ∙ holds s e .p)
+    at (makes-p (at-compare .compare .ensures) (c .before .before .set-flags .ensures) s e)
 
 pub compared-spec : {M : Type 1} → statement M
 compared-spec =

@@ -8,15 +8,21 @@ use Rattle.operations.proofs.used.Tie as tie
 
 returns : tie.Need-returns
 unfolding used recordOf
-returns c = λ s e. rw (c .before .before .before .before .before .enum-told .given .1, ← holds s e .a) (makes-to 1 refl (c .before .before .to .ensures) s e)
+returns c = λ s e.
+    rw (c .before .before .before .before .before .enum-told .given .1, ← holds s e .a)
+    (makes-to 1 refl (c .before .before .to .ensures) s e)
 
 returns-2 : tie.Need-returns-2
 unfolding used recordOf
-returns-2 c = λ s e. rw (c .before .before .before .before .before .enum-told2 .given .1, ← holds s e .a) (makes-to 1 refl (c .before .before .to2 .ensures) s e)
+returns-2 c = λ s e.
+    rw (c .before .before .before .before .before .enum-told2 .given .1, ← holds s e .a)
+    (makes-to 1 refl (c .before .before .to2 .ensures) s e)
 
 returns-3 : tie.Need-returns-3
 unfolding used recordOf
-returns-3 c = λ s e. rw (c .before .before .before .before .before .enum-told3 .given .1, ← holds s e .a) (makes-to 1 refl (c .before .before .to3 .ensures) s e)
+returns-3 c = λ s e.
+    rw (c .before .before .before .before .before .enum-told3 .given .1, ← holds s e .a)
+    (makes-to 1 refl (c .before .before .to3 .ensures) s e)
 
 returns-4 : tie.Need-returns-4
 unfolding used
@@ -25,7 +31,8 @@ returns-4 c =
     let at-flags-of = at-adc .before .before in
     let at-enum-told4 = at-flags-of .before .before .before in
     λ s e. rw (at-enum-told4 .enum-told4 .given .1)
-    (rw (at-flags-of .flags-of .ensures ∙ holds s e .p, holds s e .a) at (makes-result (at-adc .adc .ensures) (c .before .before .to-result .ensures) s e))
+    (rw (at-flags-of .flags-of .ensures ∙ holds s e .p, holds s e .a)
+    at (makes-result (at-adc .adc .ensures) (c .before .before .to-result .ensures) s e))
 
 returns-5 : tie.Need-returns-5
 unfolding used
@@ -34,7 +41,8 @@ returns-5 c =
     let at-flags-of2 = at-bit-test .before .before in
     let at-enum-told5 = at-flags-of2 .before .before .before in
     λ s e. rw (at-enum-told5 .enum-told5 .given .1)
-    (rw (at-flags-of2 .flags-of2 .ensures ∙ holds s e .p, holds s e .a) at (makes-p (at-bit-test .bit-test .ensures) (c .before .before .set-flags .ensures) s e))
+    (rw (at-flags-of2 .flags-of2 .ensures ∙ holds s e .p, holds s e .a)
+    at (makes-p (at-bit-test .bit-test .ensures) (c .before .before .set-flags .ensures) s e))
 
 returns-6 : tie.Need-returns-6
 unfolding used recordOf
@@ -53,7 +61,8 @@ returns-8 c =
     let at-flags-of3 = at-sbc .before .before in
     let at-enum-told8 = at-flags-of3 .before .before .before in
     λ s e. rw (at-enum-told8 .enum-told8 .given .1)
-    (rw (at-flags-of3 .flags-of3 .ensures ∙ holds s e .p, holds s e .a) at (makes-result (at-sbc .sbc .ensures) (c .before .before .to-result2 .ensures) s e))
+    (rw (at-flags-of3 .flags-of3 .ensures ∙ holds s e .p, holds s e .a)
+    at (makes-result (at-sbc .sbc .ensures) (c .before .before .to-result2 .ensures) s e))
 
 returns-9 : tie.Need-returns-9
 unfolding used recordOf

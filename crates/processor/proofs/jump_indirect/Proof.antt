@@ -13,7 +13,8 @@ returns c = λ s h.
     let at-word = c .before .before .before .before .before .before in
     let at-sum = at-word .before .before .before in
     let word = rw (at-sum .wrapping-add-u16 .ensures) at (at-word .word-at .ensures s h) in
-    does s (makes-pc {pc = at-word .word-at .result} refl (c .before .before .set-pc .ensures) s (h .bytes)) (then-call (λ to. done (withPc to (s .cpu))) word ended)
+    does s (makes-pc {pc = at-word .word-at .result} refl (c .before .before .set-pc .ensures) s (h .bytes))
+    (then-call (λ to. done (withPc to (s .cpu))) word ended)
 
 pub jump-indirect-spec : {M : Type 1} → statement M
 jump-indirect-spec =

@@ -20,7 +20,8 @@ returns c =
     let sp = holds s (h .bytes) .s in
     let raised = makes-s (at-up .up .ensures) (at-set-s .set-s .ensures) s (h .bytes) in
     does s {c = toA (at-pulled .pulled .result) (withS (sum8 (s .cpu .s) 1) (s .cpu))}
-    (rw sp at (makes-to 1 {v = at-pulled .pulled .result} refl (c .before .before .to .ensures) (moved (withS _ (s .cpu)) (s .bus) s) raised))
+    (rw sp at (makes-to 1 {v = at-pulled .pulled .result} refl (c .before .before .to .ensures)
+    (moved (withS _ (s .cpu)) (s .bus) s) raised))
     (then-call (λ v. done (toA v (withS (sum8 (s .cpu .s) 1) (s .cpu)))) (rw sp at (at-pulled .pulled .ensures s h)) ended)
 
 pub pla-spec : {M : Type 1} → statement M
