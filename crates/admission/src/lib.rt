@@ -77,7 +77,8 @@ fn rules_at(image: &[u8], c: u8, map: &[u8], i: usize) -> Rules
 // left by the label at the first broken rule.
 fn judge(image: &[u8], c: u8, map: &[u8]) -> Verdict
     requires { ⌜ ((length (now image) ≡ 65536) × (length (now map) ≤ 65536)) × Ascending (now map) ⌝ }
-    ensures { λ r. ⌜ r ≡ tested (ofRecords (ruleTests images (now (image .entry)) c (now (map .entry))) 0 (marksIn (now (map .entry)))) Barred Accepted ⌝ }
+    ensures { λ r. ⌜ r ≡ tested (ofRecords (ruleTests images (now (image .entry)) c (now (map .entry))) 0 (marksIn (now (map .entry))))
+        Barred Accepted ⌝ }
 {
     let n = map.len() / 8;
     let mut i: usize = 0;

@@ -13,7 +13,8 @@ ghost use Rattle.interrupts.specs.Reads.{twoReads, threeReads};
 // "read PC twice"
 fn two_reads(state: &[u8], w: Wiring, image: &[u8], list: &mut [u8], pc: u16)
     requires { ⌜ Ready w (length (now state)) (length (now image)) (length (now list)) ⌝ }
-    ensures { λ r. ⌜ ((t : State) → Stands execution t (now (state .entry)) w → Goes (twoReads pc) 0 (t .bus) (now (image .entry)) (now (list .entry)) tt 2 (t .bus) (now (image .entry)) (now (list .exit))) ⌝ }
+    ensures { λ r. ⌜ ((t : State) → Stands execution t (now (state .entry)) w →
+        Goes (twoReads pc) 0 (t .bus) (now (image .entry)) (now (list .entry)) tt 2 (t .bus) (now (image .entry)) (now (list .exit))) ⌝ }
 {
     reads::read(state, w, image, list, 0, pc);
     reads::read(state, w, image, list, 1, pc);
@@ -22,7 +23,9 @@ fn two_reads(state: &[u8], w: Wiring, image: &[u8], list: &mut [u8], pc: u16)
 // "IRQ, NMI: read PC twice, push PC high, low, P (bit 4 clear), read the vector (FFFE, FFFA), set I."
 pub fn interrupt(vector: u16, state: &mut [u8], w: Wiring, image: &mut [u8], list: &mut [u8])
     requires { ⌜ (vector < 65535) × Ready w (length (now state)) (length (now image)) (length (now list)) ⌝ }
-    ensures { λ r. ⌜ ((s : State) → Stands execution s (now (state .entry)) w → Does (interrupt vector (s .cpu)) 0 s (now (image .entry)) (now (list .entry)) 7 (now (state .exit)) (now (image .exit)) (now (list .exit))) ⌝ }
+    ensures { λ r. ⌜ ((s : State) → Stands execution s (now (state .entry)) w →
+        Does (interrupt vector (s .cpu)) 0 s (now (image .entry)) (now (list .entry)) 7 (now (state .exit)) (now (image .exit))
+        (now (list .exit))) ⌝ }
 {
     let pc = state::pc_of(state);
     let s = state[state::S];
@@ -35,7 +38,8 @@ pub fn interrupt(vector: u16, state: &mut [u8], w: Wiring, image: &mut [u8], lis
 // "three stack reads in place of pushes"
 fn three_reads(state: &[u8], w: Wiring, image: &[u8], list: &mut [u8], s: u8)
     requires { ⌜ Ready w (length (now state)) (length (now image)) (length (now list)) ⌝ }
-    ensures { λ r. ⌜ ((t : State) → Stands execution t (now (state .entry)) w → Goes (threeReads s) 2 (t .bus) (now (image .entry)) (now (list .entry)) tt 5 (t .bus) (now (image .entry)) (now (list .exit))) ⌝ }
+    ensures { λ r. ⌜ ((t : State) → Stands execution t (now (state .entry)) w →
+        Goes (threeReads s) 2 (t .bus) (now (image .entry)) (now (list .entry)) tt 5 (t .bus) (now (image .entry)) (now (list .exit))) ⌝ }
 {
     let one = bytes::stack(bytes::down(1, s));
     let two = bytes::stack(bytes::down(2, s));
@@ -47,7 +51,9 @@ fn three_reads(state: &[u8], w: Wiring, image: &[u8], list: &mut [u8], s: u8)
 // "RES: the same with three stack reads in place of pushes, S lowered by 3, vector FFFC, I set, D kept"
 pub fn reset(state: &mut [u8], w: Wiring, image: &[u8], list: &mut [u8])
     requires { ⌜ Ready w (length (now state)) (length (now image)) (length (now list)) ⌝ }
-    ensures { λ r. ⌜ ((s : State) → Stands execution s (now (state .entry)) w → Does (reset (s .cpu)) 0 s (now (image .entry)) (now (list .entry)) 7 (now (state .exit)) (now (image .entry)) (now (list .exit))) ⌝ }
+    ensures { λ r. ⌜ ((s : State) → Stands execution s (now (state .entry)) w →
+        Does (reset (s .cpu)) 0 s (now (image .entry)) (now (list .entry)) 7 (now (state .exit)) (now (image .entry)) (now (list .exit)))
+        ⌝ }
 {
     let pc = state::pc_of(state);
     let s = state[state::S];

@@ -44,7 +44,9 @@ fn old_page(a: u16, i: u8) -> u16
 // "pointer low, high (both in page zero)"
 fn pointer(state: &[u8], w: Wiring, image: &[u8], list: &mut [u8], k: usize, z: u8) -> u16
     requires { ⌜ (k < 6) × Ready w (length (now state)) (length (now image)) (length (now list)) ⌝ }
-    ensures { λ r. ⌜ ((s : State) → Stands execution s (now (state .entry)) w → Goes (pointer z) k (s .bus) (now (image .entry)) (now (list .entry)) r (k + 2) (s .bus) (now (image .entry)) (now (list .exit))) ⌝ }
+    ensures { λ r. ⌜ ((s : State) → Stands execution s (now (state .entry)) w →
+        Goes (pointer z) k (s .bus) (now (image .entry)) (now (list .entry)) r (k + 2) (s .bus) (now (image .entry)) (now (list .exit)))
+        ⌝ }
 {
     let above = std::num::wrapping_add_u8(z, 1) as u16;
     reads::word_at(state, w, image, list, k, z as u16, above)
@@ -53,7 +55,9 @@ fn pointer(state: &[u8], w: Wiring, image: &[u8], list: &mut [u8], k: usize, z: 
 // "read the unindexed zero-page address"
 fn zero_indexed(state: &[u8], w: Wiring, image: &[u8], list: &mut [u8], z: u8, i: u8) -> u8
     requires { ⌜ Ready w (length (now state)) (length (now image)) (length (now list)) ⌝ }
-    ensures { λ r. ⌜ ((s : State) → Stands execution s (now (state .entry)) w → Goes (zeroIndexed z i) 2 (s .bus) (now (image .entry)) (now (list .entry)) r 3 (s .bus) (now (image .entry)) (now (list .exit))) ⌝ }
+    ensures { λ r. ⌜ ((s : State) → Stands execution s (now (state .entry)) w →
+        Goes (zeroIndexed z i) 2 (s .bus) (now (image .entry)) (now (list .entry)) r 3 (s .bus) (now (image .entry)) (now (list .exit)))
+        ⌝ }
 {
     reads::read(state, w, image, list, 2, z as u16);
     std::num::wrapping_add_u8(z, i)
@@ -62,7 +66,9 @@ fn zero_indexed(state: &[u8], w: Wiring, image: &[u8], list: &mut [u8], z: u8, i
 // "read at the old page with the summed low byte; then the data at the full sum"
 fn indexed(state: &[u8], w: Wiring, image: &[u8], list: &mut [u8], k: usize, a: u16, i: u8) -> u16
     requires { ⌜ (k < 7) × Ready w (length (now state)) (length (now image)) (length (now list)) ⌝ }
-    ensures { λ r. ⌜ ((s : State) (κ : Bank) → Stands κ s (now (state .entry)) w → Goes (indexed κ a i) k (s .bus) (now (image .entry)) (now (list .entry)) r (k + 1) (s .bus) (now (image .entry)) (now (list .exit))) ⌝ }
+    ensures { λ r. ⌜ ((s : State) (κ : Bank) → Stands κ s (now (state .entry)) w →
+        Goes (indexed κ a i) k (s .bus) (now (image .entry)) (now (list .entry)) r (k + 1) (s .bus) (now (image .entry))
+        (now (list .exit))) ⌝ }
 {
     reads::read(state, w, image, list, k, old_page(a, i));
     std::num::wrapping_add_u16(a, i as u16)
@@ -79,7 +85,9 @@ fn load_indexed(
     i: u8,
 ) -> Loaded
     requires { ⌜ (k < 6) × Ready w (length (now state)) (length (now image)) (length (now list)) ⌝ }
-    ensures { λ r. ⌜ (r .count ≤ k + 2) × ((s : State) (κ : Bank) → Stands κ s (now (state .entry)) w → Goes (loadIndexed κ a i) k (s .bus) (now (image .entry)) (now (list .entry)) (r .value) (r .count) (s .bus) (now (image .entry)) (now (list .exit))) ⌝ }
+    ensures { λ r. ⌜ (r .count ≤ k + 2) × ((s : State) (κ : Bank) → Stands κ s (now (state .entry)) w →
+        Goes (loadIndexed κ a i) k (s .bus) (now (image .entry)) (now (list .entry)) (r .value) (r .count) (s .bus) (now (image .entry))
+        (now (list .exit))) ⌝ }
 {
     let near = old_page(a, i);
     let sum = std::num::wrapping_add_u16(a, i as u16);
@@ -108,7 +116,8 @@ pub(crate) fn past(n: u16, pc: u16, state: &mut [u8])
 // The high byte of an address is listed, and PC is behind it.
 pub(crate) fn third(high: u8, pc: u16, state: &mut [u8], w: Wiring, list: &mut [u8])
     requires { ⌜ (length (now state) ≡ 16) × (56 ≤ length (now list)) ⌝ }
-    ensures { λ r. ⌜ ((s : State) (i : List ℕ) → Fetched (λ v. high) s (now (state .entry)) i w pc → Opens 3 s i (now (list .entry)) (now (state .exit)) (now (list .exit))) ⌝ }
+    ensures { λ r. ⌜ ((s : State) (i : List ℕ) → Fetched (λ v. high) s (now (state .entry)) i w pc →
+        Opens 3 s i (now (list .entry)) (now (state .exit)) (now (list .exit))) ⌝ }
 {
     let at = std::num::wrapping_add_u16(pc, 2);
     listing::note(list, 2, at, w.bank, high, 0);
@@ -125,7 +134,8 @@ pub(crate) fn load(
     list: &mut [u8],
 ) -> Loaded
     requires { ⌜ Ready w (length (now state)) (length (now image)) (length (now list)) ⌝ }
-    ensures { λ r. ⌜ (r .count ≤ 7) × ((s : State) → Fetched (highIn m) s (now (state .entry)) (now (image .entry)) w pc → Reaches load m s (now (image .entry)) (now (list .entry)) (r .value) (r .count) (now (state .exit)) (now (list .exit))) ⌝ }
+    ensures { λ r. ⌜ (r .count ≤ 7) × ((s : State) → Fetched (highIn m) s (now (state .entry)) (now (image .entry)) w pc →
+        Reaches load m s (now (image .entry)) (now (list .entry)) (r .value) (r .count) (now (state .exit)) (now (list .exit))) ⌝ }
 {
     match m {
         Mode::Immediate(v) => {
@@ -206,7 +216,9 @@ pub(crate) fn place(
     list: &mut [u8],
 ) -> Spot
     requires { ⌜ Ready w (length (now state)) (length (now image)) (length (now list)) ⌝ }
-    ensures { λ r. ⌜ ((r .count ≤ 5) × (r .count ≤ modeSize m + placeMost m)) × ((s : State) → Fetched (highIn m) s (now (state .entry)) (now (image .entry)) w pc → Reaches place m s (now (image .entry)) (now (list .entry)) (r .address) (r .count) (now (state .exit)) (now (list .exit))) ⌝ }
+    ensures { λ r. ⌜ ((r .count ≤ 5) × (r .count ≤ modeSize m + placeMost m))
+        × ((s : State) → Fetched (highIn m) s (now (state .entry)) (now (image .entry)) w pc →
+        Reaches place m s (now (image .entry)) (now (list .entry)) (r .address) (r .count) (now (state .exit)) (now (list .exit))) ⌝ }
 {
     match m {
         Mode::Immediate(v) => {

@@ -48,7 +48,8 @@ fn register_of(o: Storing, state: &[u8]) -> u8
 // "Only the last one or two accesses of B1 and 91 (after the pointer) use the indirect bank."
 fn wiring_of(m: Mode, state: &[u8], w: Wiring) -> Wiring
     requires { ⌜ ((length (now state) ≡ 16) × (w .base + 65536 ≤ w .size)) × (w .size % 65536 ≡ 0) ⌝ }
-    ensures { λ r. ⌜ ((r .base + 65536 ≤ w .size) × (r .size ≡ w .size)) × ((s : State) → Stands execution s (now (state .entry)) w → Stands (bankOf m) s (now (state .entry)) r) ⌝ }
+    ensures { λ r. ⌜ ((r .base + 65536 ≤ w .size) × (r .size ≡ w .size))
+        × ((s : State) → Stands execution s (now (state .entry)) w → Stands (bankOf m) s (now (state .entry)) r) ⌝ }
 {
     if let Mode::IndirectBankY(_) = m {
         return wiring::indirect(state, w);
@@ -66,7 +67,9 @@ fn store(
     list: &mut [u8],
 )
     requires { ⌜ (at .count < 7) × Ready w (length (now state)) (length (now image)) (length (now list)) ⌝ }
-    ensures { λ r. ⌜ ((s : State) → Stands execution s (now (state .entry)) w → Does (storedAt o m (at .address) (s .cpu)) (at .count) s (now (image .entry)) (now (list .entry)) (at .count + 1) (now (state .exit)) (now (image .exit)) (now (list .exit))) ⌝ }
+    ensures { λ r. ⌜ ((s : State) → Stands execution s (now (state .entry)) w →
+        Does (storedAt o m (at .address) (s .cpu)) (at .count) s (now (image .entry)) (now (list .entry)) (at .count + 1)
+        (now (state .exit)) (now (image .exit)) (now (list .exit))) ⌝ }
 {
     let there = wiring_of(m, state, w);
     let v = register_of(o, state);
@@ -85,7 +88,10 @@ fn rewrite(
     list: &mut [u8],
 )
     requires { ⌜ (k < 6) × Ready w (length (now state)) (length (now image)) (length (now list)) ⌝ }
-    ensures { λ r. ⌜ ((s : State) → Stands execution s (now (state .entry)) w → v ≡ look images (world (s .bus) (now (image .entry))) execution a → Does (rewritten o a v (s .cpu)) k s (now (image .entry)) (now (list .entry)) (k + 2) (now (state .exit)) (now (image .exit)) (now (list .exit))) ⌝ }
+    ensures { λ r. ⌜ ((s : State) → Stands execution s (now (state .entry)) w →
+        v ≡ look images (world (s .bus) (now (image .entry))) execution a →
+        Does (rewritten o a v (s .cpu)) k s (now (image .entry)) (now (list .entry)) (k + 2) (now (state .exit)) (now (image .exit))
+        (now (list .exit))) ⌝ }
 {
     let f = state::flags_of(state);
     let made = arithmetic::changed(o, v, f);
@@ -97,7 +103,9 @@ fn rewrite(
 
 fn change(o: Changing, at: Spot, state: &mut [u8], w: Wiring, image: &mut [u8], list: &mut [u8])
     requires { ⌜ (at .count < 5) × Ready w (length (now state)) (length (now image)) (length (now list)) ⌝ }
-    ensures { λ r. ⌜ ((s : State) → Stands execution s (now (state .entry)) w → Does (changedAt o (at .address) (s .cpu)) (at .count) s (now (image .entry)) (now (list .entry)) (at .count + 3) (now (state .exit)) (now (image .exit)) (now (list .exit))) ⌝ }
+    ensures { λ r. ⌜ ((s : State) → Stands execution s (now (state .entry)) w →
+        Does (changedAt o (at .address) (s .cpu)) (at .count) s (now (image .entry)) (now (list .entry)) (at .count + 3)
+        (now (state .exit)) (now (image .exit)) (now (list .exit))) ⌝ }
 {
     let k = at.count;
     let a = at.address;
@@ -117,7 +125,9 @@ fn lay(
     list: &mut [u8],
 ) -> usize
     requires { ⌜ (Lays i m × (short i ≡ true)) × Ready w (length (now state)) (length (now image)) (length (now list)) ⌝ }
-    ensures { λ r. ⌜ (r ≤ 7) × ((s : State) → Fetched (highIn m) s (now (state .entry)) (now (image .entry)) w pc → Does (rest i (s .cpu)) 2 s (now (image .entry)) (now (list .entry)) r (now (state .exit)) (now (image .exit)) (now (list .exit))) ⌝ }
+    ensures { λ r. ⌜ (r ≤ 7) × ((s : State) → Fetched (highIn m) s (now (state .entry)) (now (image .entry)) w pc →
+        Does (rest i (s .cpu)) 2 s (now (image .entry)) (now (list .entry)) r (now (state .exit)) (now (image .exit)) (now (list .exit)))
+        ⌝ }
 {
     let at = addressing::place(m, pc, state, w, image, list);
     match i {
@@ -186,7 +196,9 @@ fn branch(
     list: &mut [u8],
 ) -> usize
     requires { ⌜ Ready w (length (now state)) (length (now image)) (length (now list)) ⌝ }
-    ensures { λ r. ⌜ (r ≤ 7) × ((s : State) → Stands execution s (now (state .entry)) w → pc ≡ s .cpu .pc → Does (perform (Branch t o) (past 2 (s .cpu))) 2 s (now (image .entry)) (now (list .entry)) r (now (state .exit)) (now (image .entry)) (now (list .exit))) ⌝ }
+    ensures { λ r. ⌜ (r ≤ 7) × ((s : State) → Stands execution s (now (state .entry)) w → pc ≡ s .cpu .pc →
+        Does (perform (Branch t o) (past 2 (s .cpu))) 2 s (now (image .entry)) (now (list .entry)) r (now (state .exit))
+        (now (image .entry)) (now (list .exit))) ⌝ }
 {
     let next = std::num::wrapping_add_u16(pc, 2);
     if taken(t, state[state::P]) {
@@ -214,7 +226,9 @@ fn read_into(
     list: &mut [u8],
 ) -> usize
     requires { ⌜ Ready w (length (now state)) (length (now image)) (length (now list)) ⌝ }
-    ensures { λ r. ⌜ (r ≤ 7) × ((s : State) → Fetched (highIn m) s (now (state .entry)) (now (image .entry)) w pc → Does (rest (Read o m) (s .cpu)) 2 s (now (image .entry)) (now (list .entry)) r (now (state .exit)) (now (image .entry)) (now (list .exit))) ⌝ }
+    ensures { λ r. ⌜ (r ≤ 7) × ((s : State) → Fetched (highIn m) s (now (state .entry)) (now (image .entry)) w pc →
+        Does (rest (Read o m) (s .cpu)) 2 s (now (image .entry)) (now (list .entry)) r (now (state .exit)) (now (image .entry))
+        (now (list .exit))) ⌝ }
 {
     let got = addressing::load(m, pc, state, w, image, list);
     operations::used(o, got.value, state);
@@ -224,7 +238,9 @@ fn read_into(
 // "JSR: low, read at S, push PC+2 high, low, then high operand."
 fn jsr(low: u8, pc: u16, state: &mut [u8], w: Wiring, image: &mut [u8], list: &mut [u8])
     requires { ⌜ Ready w (length (now state)) (length (now image)) (length (now list)) ⌝ }
-    ensures { λ r. ⌜ ((s : State) → Stands execution s (now (state .entry)) w → pc ≡ s .cpu .pc → Does (jsr low (past 2 (s .cpu))) 2 s (now (image .entry)) (now (list .entry)) 6 (now (state .exit)) (now (image .exit)) (now (list .exit))) ⌝ }
+    ensures { λ r. ⌜ ((s : State) → Stands execution s (now (state .entry)) w → pc ≡ s .cpu .pc →
+        Does (jsr low (past 2 (s .cpu))) 2 s (now (image .entry)) (now (list .entry)) 6 (now (state .exit)) (now (image .exit))
+        (now (list .exit))) ⌝ }
 {
     let s = state[state::S];
     let two = std::num::wrapping_add_u16(pc, 2);
@@ -238,7 +254,9 @@ fn jsr(low: u8, pc: u16, state: &mut [u8], w: Wiring, image: &mut [u8], list: &m
 // "BRK: PC+1, push PC+2 high, low, P with bit 4 set, FFFE, FFFF; I set."
 fn brk(pc: u16, state: &mut [u8], w: Wiring, image: &mut [u8], list: &mut [u8])
     requires { ⌜ Ready w (length (now state)) (length (now image)) (length (now list)) ⌝ }
-    ensures { λ r. ⌜ ((s : State) → Stands execution s (now (state .entry)) w → pc ≡ s .cpu .pc → Does (brk (past 1 (s .cpu))) 2 s (now (image .entry)) (now (list .entry)) 7 (now (state .exit)) (now (image .exit)) (now (list .exit))) ⌝ }
+    ensures { λ r. ⌜ ((s : State) → Stands execution s (now (state .entry)) w → pc ≡ s .cpu .pc →
+        Does (brk (past 1 (s .cpu))) 2 s (now (image .entry)) (now (list .entry)) 7 (now (state .exit)) (now (image .exit))
+        (now (list .exit))) ⌝ }
 {
     let back = std::num::wrapping_add_u16(pc, 2);
     let s = state[state::S];
@@ -250,7 +268,9 @@ fn brk(pc: u16, state: &mut [u8], w: Wiring, image: &mut [u8], list: &mut [u8])
 // "JMP (a): two operands, pointer, and the next location"
 fn jump_indirect(a: u16, state: &mut [u8], w: Wiring, image: &[u8], list: &mut [u8])
     requires { ⌜ Ready w (length (now state)) (length (now image)) (length (now list)) ⌝ }
-    ensures { λ r. ⌜ ((s : State) → Stands execution s (now (state .entry)) w → Does (jumpIndirect a (s .cpu)) 3 s (now (image .entry)) (now (list .entry)) 5 (now (state .exit)) (now (image .entry)) (now (list .exit))) ⌝ }
+    ensures { λ r. ⌜ ((s : State) → Stands execution s (now (state .entry)) w →
+        Does (jumpIndirect a (s .cpu)) 3 s (now (image .entry)) (now (list .entry)) 5 (now (state .exit)) (now (image .entry))
+        (now (list .exit))) ⌝ }
 {
     let next = std::num::wrapping_add_u16(a, 1);
     let to = reads::word_at(state, w, image, list, 3, a, next);
@@ -294,7 +314,9 @@ fn perform(
     list: &mut [u8],
 ) -> usize
     requires { ⌜ (short i ≡ true) × Ready w (length (now state)) (length (now image)) (length (now list)) ⌝ }
-    ensures { λ r. ⌜ (r ≤ 7) × ((s : State) → Fetched (highOf i) s (now (state .entry)) (now (image .entry)) w pc → Does (rest i (s .cpu)) 2 s (now (image .entry)) (now (list .entry)) r (now (state .exit)) (now (image .exit)) (now (list .exit))) ⌝ }
+    ensures { λ r. ⌜ (r ≤ 7) × ((s : State) → Fetched (highOf i) s (now (state .entry)) (now (image .entry)) w pc →
+        Does (rest i (s .cpu)) 2 s (now (image .entry)) (now (list .entry)) r (now (state .exit)) (now (image .exit)) (now (list .exit)))
+        ⌝ }
 {
     match i {
         Instruction::Read(o, m) => read_into(o, m, pc, state, w, image, list),
@@ -382,7 +404,8 @@ fn fetch(state: &[u8], w: Wiring, image: &[u8], pc: u16) -> Bytes
 // The opcode and the byte behind it are listed.
 fn begin(f: Bytes, pc: u16, w: Wiring, list: &mut [u8])
     requires { ⌜ 56 ≤ length (now list) ⌝ }
-    ensures { λ r. ⌜ ((s : State) (i : List ℕ) → Wired execution w (s .bus) → pc ≡ s .cpu .pc → Found f s i → Goes (begun (s .cpu .pc)) 0 (s .bus) i (now (list .entry)) (f .low) 2 (s .bus) i (now (list .exit))) ⌝ }
+    ensures { λ r. ⌜ ((s : State) (i : List ℕ) → Wired execution w (s .bus) → pc ≡ s .cpu .pc → Found f s i →
+        Goes (begun (s .cpu .pc)) 0 (s .bus) i (now (list .entry)) (f .low) 2 (s .bus) i (now (list .exit))) ⌝ }
 {
     let one = std::num::wrapping_add_u16(pc, 1);
     listing::note(list, 0, pc, w.bank, f.opcode, 0);
@@ -391,8 +414,10 @@ fn begin(f: Bytes, pc: u16, w: Wiring, list: &mut [u8])
 
 // The instruction at PC. Answers the accesses made, or 0 where the opcode is undefined: then nothing has changed.
 pub fn instruction(pins: u8, state: &mut [u8], image: &mut [u8], list: &mut [u8]) -> usize
-    requires { ⌜ ((length (now state) ≡ 16) × (56 ≤ length (now list))) × ((65536 ≤ length (now image)) × (length (now image) % 65536 ≡ 0)) ⌝ }
-    ensures { λ r. ⌜ (r ≤ 7) × ((s : State) → Begins s (now (state .entry)) pins (length (now (image .entry))) → Executed s (now (image .entry)) (now (list .entry)) r (now (state .exit)) (now (image .exit)) (now (list .exit))) ⌝ }
+    requires { ⌜ ((length (now state) ≡ 16) × (56 ≤ length (now list)))
+        × ((65536 ≤ length (now image)) × (length (now image) % 65536 ≡ 0)) ⌝ }
+    ensures { λ r. ⌜ (r ≤ 7) × ((s : State) → Begins s (now (state .entry)) pins (length (now (image .entry))) →
+        Executed s (now (image .entry)) (now (list .entry)) r (now (state .exit)) (now (image .exit)) (now (list .exit))) ⌝ }
 {
     let w = wiring::wire(state, pins, image.len());
     let pc = state::pc_of(state);

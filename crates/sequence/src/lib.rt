@@ -13,7 +13,9 @@ ghost use Rattle.sequence.specs.Pushes.{pushThree};
 // "push PC high, low, P"
 pub fn push_three(state: &[u8], w: Wiring, image: &mut [u8], list: &mut [u8], pc: u16, s: u8, p: u8)
     requires { ⌜ Ready w (length (now state)) (length (now image)) (length (now list)) ⌝ }
-    ensures { λ r. ⌜ ((t : State) → Stands execution t (now (state .entry)) w → Goes (pushThree pc s p) 2 (t .bus) (now (image .entry)) (now (list .entry)) tt 5 (t .bus) (now (image .exit)) (now (list .exit))) ⌝ }
+    ensures { λ r. ⌜ ((t : State) → Stands execution t (now (state .entry)) w →
+        Goes (pushThree pc s p) 2 (t .bus) (now (image .entry)) (now (list .entry)) tt 5 (t .bus) (now (image .exit)) (now (list .exit)))
+        ⌝ }
 {
     writes::push_pc(state, w, image, list, 2, pc, s);
     writes::push(state, w, image, list, 4, bytes::down(2, s), p);
@@ -22,7 +24,9 @@ pub fn push_three(state: &[u8], w: Wiring, image: &mut [u8], list: &mut [u8], pc
 // How BRK, an interrupt and a reset end: S is lower by 3, "read the vector", "set I".
 pub fn enter(vector: u16, state: &mut [u8], w: Wiring, image: &[u8], list: &mut [u8])
     requires { ⌜ (vector < 65535) × Ready w (length (now state)) (length (now image)) (length (now list)) ⌝ }
-    ensures { λ r. ⌜ ((s : State) → Stands execution s (now (state .entry)) w → Does (enter vector (s .cpu)) 5 s (now (image .entry)) (now (list .entry)) 7 (now (state .exit)) (now (image .entry)) (now (list .exit))) ⌝ }
+    ensures { λ r. ⌜ ((s : State) → Stands execution s (now (state .entry)) w →
+        Does (enter vector (s .cpu)) 5 s (now (image .entry)) (now (list .entry)) 7 (now (state .exit)) (now (image .entry))
+        (now (list .exit))) ⌝ }
 {
     let s = state[state::S];
     let f = flags::with_i(true, state::flags_of(state));

@@ -19,7 +19,9 @@ ghost use Rattle.stacking.specs.Pulled.{pulledAt};
 // "Push: PC+1, write at S."
 fn push(v: u8, state: &mut [u8], w: Wiring, image: &mut [u8], list: &mut [u8])
     requires { ⌜ Ready w (length (now state)) (length (now image)) (length (now list)) ⌝ }
-    ensures { λ r. ⌜ ((s : State) → Stands execution s (now (state .entry)) w → Does (push v (s .cpu)) 2 s (now (image .entry)) (now (list .entry)) 3 (now (state .exit)) (now (image .exit)) (now (list .exit))) ⌝ }
+    ensures { λ r. ⌜ ((s : State) → Stands execution s (now (state .entry)) w →
+        Does (push v (s .cpu)) 2 s (now (image .entry)) (now (list .entry)) 3 (now (state .exit)) (now (image .exit)) (now (list .exit)))
+        ⌝ }
 {
     let s = state[state::S];
     writes::push(state, w, image, list, 2, s, v);
@@ -36,7 +38,8 @@ fn up(k: u8, s: u8) -> u8
 // "read at S, read at S+1"
 fn pulled(state: &[u8], w: Wiring, image: &[u8], list: &mut [u8], s: u8) -> u8
     requires { ⌜ Ready w (length (now state)) (length (now image)) (length (now list)) ⌝ }
-    ensures { λ r. ⌜ ((t : State) → Stands execution t (now (state .entry)) w → Goes (pulledAt s) 2 (t .bus) (now (image .entry)) (now (list .entry)) r 4 (t .bus) (now (image .entry)) (now (list .exit))) ⌝ }
+    ensures { λ r. ⌜ ((t : State) → Stands execution t (now (state .entry)) w →
+        Goes (pulledAt s) 2 (t .bus) (now (image .entry)) (now (list .entry)) r 4 (t .bus) (now (image .entry)) (now (list .exit))) ⌝ }
 {
     let above = bytes::stack(up(1, s));
     reads::read(state, w, image, list, 2, bytes::stack(s));
@@ -46,7 +49,9 @@ fn pulled(state: &[u8], w: Wiring, image: &[u8], list: &mut [u8], s: u8) -> u8
 // "PLP, RTI keep 5 set, 4 clear"
 fn plp(state: &mut [u8], w: Wiring, image: &[u8], list: &mut [u8])
     requires { ⌜ Ready w (length (now state)) (length (now image)) (length (now list)) ⌝ }
-    ensures { λ r. ⌜ ((s : State) → Stands execution s (now (state .entry)) w → Does (atStack Plp (s .cpu)) 2 s (now (image .entry)) (now (list .entry)) 4 (now (state .exit)) (now (image .entry)) (now (list .exit))) ⌝ }
+    ensures { λ r. ⌜ ((s : State) → Stands execution s (now (state .entry)) w →
+        Does (atStack Plp (s .cpu)) 2 s (now (image .entry)) (now (list .entry)) 4 (now (state .exit)) (now (image .entry))
+        (now (list .exit))) ⌝ }
 {
     let s = state[state::S];
     let p = pulled(state, w, image, list, s);
@@ -56,7 +61,9 @@ fn plp(state: &mut [u8], w: Wiring, image: &[u8], list: &mut [u8])
 
 fn pla(state: &mut [u8], w: Wiring, image: &[u8], list: &mut [u8])
     requires { ⌜ Ready w (length (now state)) (length (now image)) (length (now list)) ⌝ }
-    ensures { λ r. ⌜ ((s : State) → Stands execution s (now (state .entry)) w → Does (atStack Pla (s .cpu)) 2 s (now (image .entry)) (now (list .entry)) 4 (now (state .exit)) (now (image .entry)) (now (list .exit))) ⌝ }
+    ensures { λ r. ⌜ ((s : State) → Stands execution s (now (state .entry)) w →
+        Does (atStack Pla (s .cpu)) 2 s (now (image .entry)) (now (list .entry)) 4 (now (state .exit)) (now (image .entry))
+        (now (list .exit))) ⌝ }
 {
     let s = state[state::S];
     let v = pulled(state, w, image, list, s);
@@ -76,7 +83,9 @@ fn set_s_pc(state: &mut [u8], s: u8, pc: u16)
 // Two bytes from S + 1 and S + 2, as an address.
 fn word_above(state: &[u8], w: Wiring, image: &[u8], list: &mut [u8], k: usize, s: u8) -> u16
     requires { ⌜ (k < 6) × Ready w (length (now state)) (length (now image)) (length (now list)) ⌝ }
-    ensures { λ r. ⌜ ((t : State) → Stands execution t (now (state .entry)) w → Goes (wordAt (stack (sum8 s 1)) (stack (sum8 s 2))) k (t .bus) (now (image .entry)) (now (list .entry)) r (k + 2) (t .bus) (now (image .entry)) (now (list .exit))) ⌝ }
+    ensures { λ r. ⌜ ((t : State) → Stands execution t (now (state .entry)) w →
+        Goes (wordAt (stack (sum8 s 1)) (stack (sum8 s 2))) k (t .bus) (now (image .entry)) (now (list .entry)) r (k + 2) (t .bus)
+        (now (image .entry)) (now (list .exit))) ⌝ }
 {
     let one = bytes::stack(up(1, s));
     let two = bytes::stack(up(2, s));
@@ -86,7 +95,8 @@ fn word_above(state: &[u8], w: Wiring, image: &[u8], list: &mut [u8], k: usize, 
 // "RTS: PC+1, read at S, pull low, high, read there; PC is one more."
 fn rts(state: &mut [u8], w: Wiring, image: &[u8], list: &mut [u8])
     requires { ⌜ Ready w (length (now state)) (length (now image)) (length (now list)) ⌝ }
-    ensures { λ r. ⌜ ((s : State) → Stands execution s (now (state .entry)) w → Does (rts (s .cpu)) 2 s (now (image .entry)) (now (list .entry)) 6 (now (state .exit)) (now (image .entry)) (now (list .exit))) ⌝ }
+    ensures { λ r. ⌜ ((s : State) → Stands execution s (now (state .entry)) w →
+        Does (rts (s .cpu)) 2 s (now (image .entry)) (now (list .entry)) 6 (now (state .exit)) (now (image .entry)) (now (list .exit))) ⌝ }
 {
     let s = state[state::S];
     reads::read(state, w, image, list, 2, bytes::stack(s));
@@ -98,7 +108,8 @@ fn rts(state: &mut [u8], w: Wiring, image: &[u8], list: &mut [u8])
 // "RTI: PC+1, read at S, pull P, low, high."
 fn rti(state: &mut [u8], w: Wiring, image: &[u8], list: &mut [u8])
     requires { ⌜ Ready w (length (now state)) (length (now image)) (length (now list)) ⌝ }
-    ensures { λ r. ⌜ ((s : State) → Stands execution s (now (state .entry)) w → Does (rti (s .cpu)) 2 s (now (image .entry)) (now (list .entry)) 6 (now (state .exit)) (now (image .entry)) (now (list .exit))) ⌝ }
+    ensures { λ r. ⌜ ((s : State) → Stands execution s (now (state .entry)) w →
+        Does (rti (s .cpu)) 2 s (now (image .entry)) (now (list .entry)) 6 (now (state .exit)) (now (image .entry)) (now (list .exit))) ⌝ }
 {
     let s = state[state::S];
     let two = bytes::stack(up(2, s));
@@ -118,7 +129,9 @@ pub fn at_stack(
     list: &mut [u8],
 ) -> usize
     requires { ⌜ Ready w (length (now state)) (length (now image)) (length (now list)) ⌝ }
-    ensures { λ r. ⌜ (r ≤ 7) × ((s : State) → Stands execution s (now (state .entry)) w → Does (atStack o (s .cpu)) 2 s (now (image .entry)) (now (list .entry)) r (now (state .exit)) (now (image .exit)) (now (list .exit))) ⌝ }
+    ensures { λ r. ⌜ (r ≤ 7) × ((s : State) → Stands execution s (now (state .entry)) w →
+        Does (atStack o (s .cpu)) 2 s (now (image .entry)) (now (list .entry)) r (now (state .exit)) (now (image .exit))
+        (now (list .exit))) ⌝ }
 {
     match o {
         Stacking::Php => {

@@ -24,7 +24,8 @@ fn kept(part: u8, v: u8) -> u8
 
 fn set_register(state: &mut [u8], a: u16, v: u8)
     requires { ⌜ length (now state) ≡ 16 ⌝ }
-    ensures { λ r. ⌜ ((s : State) → now (state .entry) ≡ recordOf s → now (state .exit) ≡ recordOf (moved (s .cpu) (registered (s .bus) a v) s)) ⌝ }
+    ensures { λ r. ⌜ ((s : State) → now (state .entry) ≡ recordOf s →
+        now (state .exit) ≡ recordOf (moved (s .cpu) (registered (s .bus) a v) s)) ⌝ }
 {
     let part = state[0];
     if a == 0 {
@@ -59,7 +60,8 @@ pub fn write(
     v: u8,
 )
     requires { ⌜ (k < 7) × Ready w (length (now state)) (length (now image)) (length (now list)) ⌝ }
-    ensures { λ r. ⌜ ((s : State) (κ : Bank) → Stands κ s (now (state .entry)) w → Writes κ a v k s (now (image .entry)) (now (list .entry)) (now (state .exit)) (now (image .exit)) (now (list .exit))) ⌝ }
+    ensures { λ r. ⌜ ((s : State) (κ : Bank) → Stands κ s (now (state .entry)) w →
+        Writes κ a v k s (now (image .entry)) (now (list .entry)) (now (state .exit)) (now (image .exit)) (now (list .exit))) ⌝ }
 {
     listing::note(list, k, a, w.bank, v, 1);
     if w.plain <= a {
@@ -76,7 +78,9 @@ pub fn write(
 // One write cycle at the stack, where no part has a register.
 pub fn push(state: &[u8], w: Wiring, image: &mut [u8], list: &mut [u8], k: usize, s: u8, v: u8)
     requires { ⌜ (k < 7) × Ready w (length (now state)) (length (now image)) (length (now list)) ⌝ }
-    ensures { λ r. ⌜ ((t : State) (κ : Bank) → Stands κ t (now (state .entry)) w → Goes {A = Unit {0}} (write κ (256 + s) v (done tt)) k (t .bus) (now (image .entry)) (now (list .entry)) tt (k + 1) (t .bus) (now (image .exit)) (now (list .exit))) ⌝ }
+    ensures { λ r. ⌜ ((t : State) (κ : Bank) → Stands κ t (now (state .entry)) w →
+        Goes {A = Unit {0}} (write κ (256 + s) v (done tt)) k (t .bus) (now (image .entry)) (now (list .entry)) tt (k + 1) (t .bus)
+        (now (image .exit)) (now (list .exit))) ⌝ }
 {
     let a = 256 + s as u16;
     listing::note(list, k, a, w.bank, v, 1);
@@ -86,7 +90,9 @@ pub fn push(state: &[u8], w: Wiring, image: &mut [u8], list: &mut [u8], k: usize
 // "push PC high, low"
 pub fn push_pc(state: &[u8], w: Wiring, image: &mut [u8], list: &mut [u8], k: usize, pc: u16, s: u8)
     requires { ⌜ (k < 6) × Ready w (length (now state)) (length (now image)) (length (now list)) ⌝ }
-    ensures { λ r. ⌜ ((t : State) → Stands execution t (now (state .entry)) w → Goes (pushPc pc s) k (t .bus) (now (image .entry)) (now (list .entry)) tt (k + 2) (t .bus) (now (image .exit)) (now (list .exit))) ⌝ }
+    ensures { λ r. ⌜ ((t : State) → Stands execution t (now (state .entry)) w →
+        Goes (pushPc pc s) k (t .bus) (now (image .entry)) (now (list .entry)) tt (k + 2) (t .bus) (now (image .exit))
+        (now (list .exit))) ⌝ }
 {
     push(state, w, image, list, k, s, (pc / 256) as u8);
     push(

@@ -77,25 +77,6 @@ returns-3 c =
 pub judge-spec : {M : Type 1} → statement M
 judge-spec =
     tie.close
-    (tie.spec
-    Inv-loop
-    μ-loop
-    Inv-records
-    μ-records
-    records-holds
-    (λ c κs. search needs)
-    (λ c. search needs)
-    (λ c. search needs)
-    loop-holds
-    (λ c. search needs)
-    (λ c κs. search needs)
-    (λ c. search needs)
-    (λ c. search needs)
-    (λ c. search needs)
-    loop-again
-    (λ c. search needs)
-    (λ c. search needs)
-    records-again
-    returns
-    returns-2
-    returns-3)
+    (tie.spec Inv-loop μ-loop Inv-records μ-records records-holds (λ c κs. search needs) (λ c. search needs) (λ c. search needs)
+    loop-holds (λ c. search needs) (λ c κs. search needs) (λ c. search needs) (λ c. search needs) (λ c. search needs) loop-again
+    (λ c. search needs) (λ c. search needs) records-again returns returns-2 returns-3)

@@ -67,13 +67,5 @@ returns-4 c =
 pub verdict-spec : {M : Type 1} → statement M
 verdict-spec =
     tie.close
-    (tie.spec
-    (λ c κs. search needs)
-    returns
-    (λ c κs. search needs)
-    cast-t10
-    returns-2
-    vectors-hold-requires
-    returns-3
-    judge-requires
+    (tie.spec (λ c κs. search needs) returns (λ c κs. search needs) cast-t10 returns-2 vectors-hold-requires returns-3 judge-requires
     returns-4)

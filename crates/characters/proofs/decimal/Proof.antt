@@ -39,17 +39,5 @@ returns c =
 pub decimal-spec : {M : Type 1} → statement M
 decimal-spec =
     tie.close
-    (tie.spec
-    Inv-loop
-    μ-loop
-    loop-holds
-    (λ c. omega arith)
-    (λ c κs. omega arith)
-    (λ c. omega arith)
-    sub-from
-    (λ c. omega arith)
-    loop-again
-    (λ c. omega arith)
-    (λ c κs. omega arith)
-    (λ c. omega arith)
-    returns)
+    (tie.spec Inv-loop μ-loop loop-holds (λ c. omega arith) (λ c κs. omega arith) (λ c. omega arith) sub-from (λ c. omega arith)
+    loop-again (λ c. omega arith) (λ c κs. omega arith) (λ c. omega arith) returns)

@@ -12,7 +12,5 @@ single-spec =
     (λ c. rw (c .match .keys1))
     (λ c. rw (c .match .keys2))
     (λ c. rw (c .match .keys3))
-    (λ c. search needs)
-    (λ c. search needs)
-    (λ c. search needs)
+    (λ c. search needs) (λ c. search needs) (λ c. search needs)
     (λ c. last (singles (c .before .args .low) (c .before .args .high)) _ Undefined (c .match .rest)))

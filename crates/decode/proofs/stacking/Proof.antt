@@ -8,10 +8,5 @@ use Rattle.decode.proofs.stacking.Tie as tie
 pub stacking-spec : {M : Type 1} → statement M
 stacking-spec =
     tie.close
-    (tie.spec
-    (λ c. search needs)
-    (λ c. search needs)
-    (λ c. search needs)
-    (λ c. search needs)
-    (λ c. search needs)
+    (tie.spec (λ c. search needs) (λ c. search needs) (λ c. search needs) (λ c. search needs) (λ c. search needs)
     (λ c. last stackings _ Rts (c .match .rest)))

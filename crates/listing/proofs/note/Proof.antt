@@ -32,24 +32,7 @@ returns c = simp unary-clauses
 pub note-spec : {M : Type 1} → statement M
 note-spec =
     tie.close
-    (tie.spec
-    (λ c. search needs)
-    (λ c. search needs)
-    (λ c. search needs)
-    (λ c. search needs)
-    (λ c. search needs)
-    slice-write-list-2
-    (λ c. search needs)
-    slice-write-list-3
-    (λ c. search needs)
-    slice-write-list-4
-    (λ c. search needs)
-    slice-write-list-5
-    (λ c. search needs)
-    slice-write-list-6
-    (λ c. search needs)
-    slice-write-list-7
-    (λ c. search needs)
-    slice-write-list-8
-    (λ c. search needs)
-    returns)
+    (tie.spec (λ c. search needs) (λ c. search needs) (λ c. search needs) (λ c. search needs) (λ c. search needs) slice-write-list-2
+    (λ c. search needs) slice-write-list-3 (λ c. search needs) slice-write-list-4 (λ c. search needs) slice-write-list-5
+    (λ c. search needs) slice-write-list-6 (λ c. search needs) slice-write-list-7 (λ c. search needs) slice-write-list-8
+    (λ c. search needs) returns)

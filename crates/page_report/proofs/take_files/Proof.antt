@@ -39,15 +39,4 @@ returns-3 c = search needs
 pub take-files-spec : {M : Type 1} → statement M
 take-files-spec =
     tie.close
-    (tie.spec
-    Inv-loop
-    μ-loop
-    loop-holds
-    take-file-requires
-    returns
-    is-counted-requires
-    returns-2
-    add-i
-    loop-less
-    loop-again
-    returns-3)
+    (tie.spec Inv-loop μ-loop loop-holds take-file-requires returns is-counted-requires returns-2 add-i loop-less loop-again returns-3)

@@ -35,14 +35,4 @@ returns-2 c = search needs
 pub take-list-spec : {M : Type 1} → statement M
 take-list-spec =
     tie.close
-    (tie.spec
-    Inv-loop
-    μ-loop
-    take-block-requires
-    loop-holds
-    returns
-    take-block-requires-2
-    sub-turns
-    loop-less
-    loop-again
-    returns-2)
+    (tie.spec Inv-loop μ-loop take-block-requires loop-holds returns take-block-requires-2 sub-turns loop-less loop-again returns-2)

@@ -59,13 +59,5 @@ returns c =
 pub are-records-spec : {M : Type 1} → statement M
 are-records-spec =
     tie.close
-    (tie.spec
-    Inv-loop
-    μ-loop
-    loop-holds
-    (λ c κs. omega arith)
-    (λ c. omega arith)
-    (λ c. search needs)
-    (λ c. search needs)
-    loop-again
+    (tie.spec Inv-loop μ-loop loop-holds (λ c κs. omega arith) (λ c. omega arith) (λ c. search needs) (λ c. search needs) loop-again
     returns)

@@ -80,19 +80,5 @@ returns c =
 pub count-spec : {M : Type 1} → statement M
 count-spec =
     tie.close
-    (tie.spec
-    Inv-loop
-    μ-loop
-    loop-holds
-    (λ c. search needs)
-    (λ c. search needs)
-    (λ c. omega arith)
-    (λ c. search needs)
-    (λ c. search needs)
-    (λ c. omega arith)
-    raise-requires
-    raise-requires-2
-    (λ c. search needs)
-    (λ c. search needs)
-    loop-again
-    returns)
+    (tie.spec Inv-loop μ-loop loop-holds (λ c. search needs) (λ c. search needs) (λ c. omega arith) (λ c. search needs)
+    (λ c. search needs) (λ c. omega arith) raise-requires raise-requires-2 (λ c. search needs) (λ c. search needs) loop-again returns)

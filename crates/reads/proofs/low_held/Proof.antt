@@ -42,16 +42,5 @@ returns-4 c = λ s e d.
 pub low-held-spec : {M : Type 1} → statement M
 low-held-spec =
     tie.close
-    (tie.spec
-    (λ c. search needs)
-    (λ c. search needs)
-    returns
-    (λ c. search needs)
-    returns-2
-    (λ c. search needs)
-    (λ c. search needs)
-    (λ c. search needs)
-    (λ c κs. search needs)
-    returns-3
-    (λ c. search needs)
-    returns-4)
+    (tie.spec (λ c. search needs) (λ c. search needs) returns (λ c. search needs) returns-2 (λ c. search needs) (λ c. search needs)
+    (λ c. search needs) (λ c κs. search needs) returns-3 (λ c. search needs) returns-4)

@@ -55,16 +55,5 @@ returns c =
 pub put-page-spec : {M : Type 1} → statement M
 put-page-spec =
     tie.close
-    (tie.spec
-    (λ c κs. search needs)
-    (λ c κs. search needs)
-    (λ c. search needs)
-    (λ c κs. search needs)
-    (λ c. search needs)
-    (λ c κs. search needs)
-    put-spaced-requires-2
-    (λ c. search needs)
-    put-requires-2
-    add-result
-    (λ c. search needs)
-    returns)
+    (tie.spec (λ c κs. search needs) (λ c κs. search needs) (λ c. search needs) (λ c κs. search needs) (λ c. search needs)
+    (λ c κs. search needs) put-spaced-requires-2 (λ c. search needs) put-requires-2 add-result (λ c. search needs) returns)

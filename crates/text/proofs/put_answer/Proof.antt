@@ -31,11 +31,4 @@ returns-2 c =
 pub put-answer-spec : {M : Type 1} → statement M
 put-answer-spec =
     tie.close
-    (tie.spec
-    cast-put-step
-    put-step-requires
-    (λ c. search needs)
-    returns
-    (λ c κs. search needs)
-    (λ c. search needs)
-    returns-2)
+    (tie.spec cast-put-step put-step-requires (λ c. search needs) returns (λ c κs. search needs) (λ c. search needs) returns-2)

@@ -32,11 +32,5 @@ returns c =
 pub put-step-spec : {M : Type 1} → statement M
 put-step-spec =
     tie.close
-    (tie.spec
-    (λ c κs. search needs)
-    (λ c. search needs)
-    (λ c κs. search needs)
-    put-record-requires
-    add-result
-    (λ c. search needs)
+    (tie.spec (λ c κs. search needs) (λ c. search needs) (λ c κs. search needs) put-record-requires add-result (λ c. search needs)
     returns)

@@ -51,9 +51,4 @@ returns-2 c = (
 pub indirect-spec : {M : Type 1} → statement M
 indirect-spec =
     tie.close
-    (tie.spec
-    (λ c. search needs)
-    (λ c. search needs)
-    (λ c κs. search needs)
-    returns
-    returns-2)
+    (tie.spec (λ c. search needs) (λ c. search needs) (λ c κs. search needs) returns returns-2)

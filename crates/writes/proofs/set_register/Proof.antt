@@ -15,13 +15,5 @@ returns-2 c = λ s e. rw (ne-eqb _ 0 (c .before .if1 .left), c .kept2 .ensures, 
 pub set-register-spec : {M : Type 1} → statement M
 set-register-spec =
     tie.close
-    (tie.spec
-    (λ c. search needs)
-    (λ c κs. search needs)
-    (λ c. search needs)
-    (λ c. search needs)
-    returns
-    (λ c κs. search needs)
-    (λ c. search needs)
-    (λ c. search needs)
-    returns-2)
+    (tie.spec (λ c. search needs) (λ c κs. search needs) (λ c. search needs) (λ c. search needs) returns (λ c κs. search needs)
+    (λ c. search needs) (λ c. search needs) returns-2)
