@@ -11,12 +11,13 @@ pub fn join(low: u8, high: u8) -> u16
     high as u16 * 256 + low as u16
 }
 
-// Where a branch goes: the next instruction's address, and a signed offset, to which 128 is added and then taken back.
+// Where a branch goes: the next instruction's address, and a signed offset. `up` is that offset plus 128, `back` how far it leads back.
 pub fn target(next: u16, o: u8) -> u16
     ensures { λ r. ⌜ r ≡ target next o ⌝ }
 {
     let up = std::num::wrapping_add_u8(o, 128) as u16;
-    std::num::wrapping_sub_u16(std::num::wrapping_add_u16(next, up), 128)
+    let back = std::num::wrapping_sub_u16(128, up);
+    std::num::wrapping_sub_u16(next, back)
 }
 
 // Where S points.

@@ -4,8 +4,10 @@ mod sums;
 
 use rules::Flags;
 use rules::Reading;
+ghost use Prim.Native.Nat.{_<_};
 ghost use mathlib.Core.Path.{_≡_};
 ghost use lib.ListN.{length};
+ghost use Rattle.rules.specs.Basics.{at};
 ghost use Rattle.rules.specs.Arithmetic.{compare, bitTest};
 ghost use Rattle.rules.specs.Operations.{withP, used};
 ghost use Rattle.state.specs.Makes.{Makes};
@@ -31,11 +33,12 @@ fn bit_test(a: u8, m: u8, f: Flags) -> Flags
     }
 }
 
-// A register compared with a byte: of all registers only the flags change.
-fn compared(state: &mut [u8], r: u8, v: u8)
-    requires { ⌜ length (now state) ≡ 16 ⌝ }
-    ensures { λ u. ⌜ Makes (λ c. withP (compare r v (c .p)) c) (now (state .entry)) (now (state .exit)) ⌝ }
+// The register of this place compared with a byte: of all registers only the flags change.
+fn compared(state: &mut [u8], register: usize, v: u8)
+    requires { ⌜ (length (now state) ≡ 16) × (register < 16) ⌝ }
+    ensures { λ r. ⌜ Makes (λ c. withP (compare (at (now (state .entry)) register) v (c .p)) c) (now (state .entry)) (now (state .exit)) ⌝ }
 {
+    let r = state[register];
     let f = state::flags_of(state);
     state::set_flags(state, compare(r, v, f))
 }
@@ -69,10 +72,7 @@ pub fn used(o: Reading, v: u8, state: &mut [u8])
             state::set_flags(state, bit_test(a, v, f))
         }
         Reading::Lda => state::to(state, state::A, v),
-        Reading::Cmp => {
-            let a = state[state::A];
-            compared(state, a, v)
-        }
+        Reading::Cmp => compared(state, state::A, v),
         Reading::Sbc => {
             let a = state[state::A];
             let f = state::flags_of(state);
@@ -80,13 +80,7 @@ pub fn used(o: Reading, v: u8, state: &mut [u8])
         }
         Reading::Ldx => state::to(state, state::X, v),
         Reading::Ldy => state::to(state, state::Y, v),
-        Reading::Cpy => {
-            let y = state[state::Y];
-            compared(state, y, v)
-        }
-        Reading::Cpx => {
-            let x = state[state::X];
-            compared(state, x, v)
-        }
+        Reading::Cpy => compared(state, state::Y, v),
+        Reading::Cpx => compared(state, state::X, v),
     }
 }

@@ -2,7 +2,8 @@
 
 ghost use Prim.Native.Nat.{_+_, _-_, _≤_, _<_};
 ghost use mathlib.Core.Path.{_≡_};
-ghost use Rattle.rules.specs.Arithmetic.{signed, leaves, binaryAdc, high, lowSum, highSum, decimalAdc, adc, lowDifference, highDifference, sbc};
+ghost use Rattle.rules.specs.Arithmetic.{signed, leaves, binaryAdc, high, lowSum, highSum, decimalAdc, adc, lowDifference};
+ghost use Rattle.rules.specs.Arithmetic.{highDifference, sbc};
 use rules::Flags;
 use rules::Result;
 

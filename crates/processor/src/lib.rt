@@ -291,7 +291,7 @@ fn txs(state: &mut [u8])
     requires { ⌜ length (now state) ≡ 16 ⌝ }
     ensures { λ r. ⌜ Makes (λ c. withS (c .x) c) (now (state .entry)) (now (state .exit)) ⌝ }
 {
-    let x = register_of(Storing::Stx, state);
+    let x = state[state::X];
     state::set_s(state, x)
 }
 

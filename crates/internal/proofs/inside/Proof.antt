@@ -8,11 +8,11 @@ use Rattle.internal.proofs.inside.Tie as tie
 
 returns : tie.Need-returns
 unfolding inside recordOf
-returns c = λ s e. rw (c .before .enum-told .given .1, e, masked (s .cpu .p) .0)
+returns c = λ s e. rw (c .before .enum-told .given .1, e, ← masked (s .cpu .p) .0)
 
 returns-2 : tie.Need-returns-2
 unfolding inside recordOf
-returns-2 c = λ s e. rw (c .before .enum-told2 .given .1, e, masked (s .cpu .p) .1 .0)
+returns-2 c = λ s e. rw (c .before .enum-told2 .given .1, e, ← masked (s .cpu .p) .1 .0)
 
 returns-3 : tie.Need-returns-3
 unfolding inside recordOf
@@ -21,7 +21,7 @@ returns-3 c = λ s e.
 
 returns-4 : tie.Need-returns-4
 unfolding inside recordOf
-returns-4 c = λ s e. rw (c .before .enum-told4 .given .1, e, masked (s .cpu .p) .1 .1 .0)
+returns-4 c = λ s e. rw (c .before .enum-told4 .given .1, e, ← masked (s .cpu .p) .1 .1 .0)
 
 returns-5 : tie.Need-returns-5
 unfolding inside recordOf
@@ -30,15 +30,15 @@ returns-5 c = λ s e.
 
 returns-6 : tie.Need-returns-6
 unfolding inside recordOf
-returns-6 c = λ s e. rw (c .before .enum-told6 .given .1, e, masked (s .cpu .p) .1 .1 .1 .0)
+returns-6 c = λ s e. rw (c .before .enum-told6 .given .1, e, ← masked (s .cpu .p) .1 .1 .1 .0)
 
 returns-7 : tie.Need-returns-7
 unfolding inside recordOf
-returns-7 c = λ s e. rw (c .before .enum-told7 .given .1, e, masked (s .cpu .p) .1 .1 .1 .1 .0)
+returns-7 c = λ s e. rw (c .before .enum-told7 .given .1, e, ← masked (s .cpu .p) .1 .1 .1 .1 .0)
 
 returns-8 : tie.Need-returns-8
 unfolding inside recordOf
-returns-8 c = λ s e. rw (c .before .enum-told8 .given .1, e, masked (s .cpu .p) .1 .1 .1 .1 .1 .0)
+returns-8 c = λ s e. rw (c .before .enum-told8 .given .1, e, ← masked (s .cpu .p) .1 .1 .1 .1 .1 .0)
 
 returns-9 : tie.Need-returns-9
 unfolding inside recordOf
@@ -94,85 +94,15 @@ returns-16 c =
 pub inside-spec : {M : Type 1} → statement M
 inside-spec =
     tie.close
-    (tie.spec
-    (λ c. search needs)
-    (λ c. search needs)
-    (λ c. search needs)
-    (λ c. search needs)
-    (λ c. search needs)
-    (λ c. search needs)
-    (λ c. search needs)
-    (λ c. search needs)
-    (λ c κs. search needs)
-    (λ c. search needs)
-    (λ c. search needs)
-    (λ c. search needs)
-    (λ c. search needs)
-    (λ c. search needs)
-    (λ c κs. search needs)
-    (λ c. search needs)
-    (λ c. search needs)
-    (λ c. search needs)
-    (λ c. search needs)
-    (λ c. search needs)
-    (λ c. search needs)
-    (λ c. search needs)
-    (λ c. search needs)
-    (λ c. search needs)
-    (λ c. search needs)
-    (λ c. search needs)
-    (λ c κs. search needs)
-    (λ c. search needs)
-    (λ c. search needs)
-    (λ c κs. search needs)
-    (λ c. search needs)
-    (λ c. search needs)
-    (λ c κs. search needs)
-    (λ c κs. search needs)
-    (λ c. search needs)
-    (λ c. search needs)
-    (λ c. search needs)
-    (λ c κs. search needs)
-    (λ c κs. search needs)
-    (λ c. search needs)
-    (λ c. search needs)
-    (λ c κs. search needs)
-    (λ c. search needs)
-    (λ c. search needs)
-    (λ c κs. search needs)
-    (λ c κs. search needs)
-    (λ c. search needs)
-    (λ c. search needs)
-    (λ c κs. search needs)
-    (λ c κs. search needs)
-    (λ c. search needs)
-    returns
-    (λ c. search needs)
-    returns-2
-    (λ c. search needs)
-    returns-3
-    (λ c. search needs)
-    returns-4
-    (λ c. search needs)
-    returns-5
-    (λ c. search needs)
-    returns-6
-    (λ c. search needs)
-    returns-7
-    (λ c. search needs)
-    returns-8
-    (λ c. search needs)
-    returns-9
-    (λ c. search needs)
-    returns-10
-    (λ c. search needs)
-    returns-11
-    returns-12
-    (λ c. search needs)
-    returns-13
-    (λ c. search needs)
-    returns-14
-    (λ c. search needs)
-    returns-15
-    (λ c. search needs)
-    returns-16)
+    (tie.spec (λ c. search needs) (λ c. search needs) (λ c. search needs) (λ c. search needs) (λ c. search needs) (λ c. search needs)
+    (λ c. search needs) (λ c. search needs) (λ c κs. search needs) (λ c. search needs) (λ c. search needs) (λ c. search needs)
+    (λ c. search needs) (λ c. search needs) (λ c κs. search needs) (λ c. search needs) (λ c. search needs) (λ c. search needs)
+    (λ c. search needs) (λ c. search needs) (λ c. search needs) (λ c. search needs) (λ c. search needs) (λ c. search needs)
+    (λ c. search needs) (λ c. search needs) (λ c κs. search needs) (λ c. search needs) (λ c. search needs) (λ c κs. search needs)
+    (λ c. search needs) (λ c. search needs) (λ c κs. search needs) (λ c κs. search needs) (λ c. search needs) (λ c. search needs)
+    (λ c. search needs) (λ c κs. search needs) (λ c κs. search needs) (λ c. search needs) (λ c. search needs) (λ c κs. search needs)
+    (λ c. search needs) (λ c. search needs) (λ c κs. search needs) (λ c κs. search needs) (λ c. search needs) (λ c. search needs)
+    (λ c κs. search needs) (λ c κs. search needs) (λ c. search needs) returns (λ c. search needs) returns-2 (λ c. search needs) returns-3
+    (λ c. search needs) returns-4 (λ c. search needs) returns-5 (λ c. search needs) returns-6 (λ c. search needs) returns-7
+    (λ c. search needs) returns-8 (λ c. search needs) returns-9 (λ c. search needs) returns-10 (λ c. search needs) returns-11 returns-12
+    (λ c. search needs) returns-13 (λ c. search needs) returns-14 (λ c. search needs) returns-15 (λ c. search needs) returns-16)

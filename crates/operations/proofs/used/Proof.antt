@@ -50,9 +50,8 @@ returns-6 c = λ s e. rw (c .before .before .before .before .enum-told6 .given .
 
 returns-7 : tie.Need-returns-7
 unfolding used
-returns-7 c =
-    let at-enum-told7 = c .before .before .before .before .before in
-    λ s e. rw (at-enum-told7 .enum-told7 .given .1) (rw (holds s e .a) at (c .before .before .compared .ensures s e))
+returns-7 c = λ s e.
+    rw (c .before .before .before .before .enum-told7 .given .1) (rw (holds s e .a) at (c .before .before .compared .ensures s e))
 
 returns-8 : tie.Need-returns-8
 unfolding used
@@ -74,80 +73,23 @@ returns-10 c = λ s e. rw (c .before .before .before .before .enum-told10 .given
 
 returns-11 : tie.Need-returns-11
 unfolding used
-returns-11 c =
-    let at-enum-told11 = c .before .before .before .before .before in
-    λ s e. rw (at-enum-told11 .enum-told11 .given .1) (rw (holds s e .y) at (c .before .before .compared2 .ensures s e))
+returns-11 c = λ s e.
+    rw (c .before .before .before .before .enum-told11 .given .1) (rw (holds s e .y) at (c .before .before .compared2 .ensures s e))
 
 returns-12 : tie.Need-returns-12
 unfolding used
-returns-12 c =
-    let at-enum-told12 = c .before .before .before .before .before in
-    λ s e. rw (at-enum-told12 .enum-told12 .given .1) (rw (holds s e .x) at (c .before .before .compared3 .ensures s e))
+returns-12 c = λ s e.
+    rw (c .before .before .before .before .enum-told12 .given .1) (rw (holds s e .x) at (c .before .before .compared3 .ensures s e))
 
 pub used-spec : {M : Type 1} → statement M
 used-spec =
     tie.close
-    (tie.spec
-    (λ c. search needs)
-    (λ c. search needs)
-    (λ c κs. search needs)
-    (λ c. search needs)
-    (λ c. search needs)
-    (λ c κs. search needs)
-    (λ c. search needs)
-    (λ c. search needs)
-    (λ c κs. search needs)
-    (λ c. search needs)
-    (λ c. search needs)
-    (λ c κs. search needs)
-    (λ c κs. search needs)
-    (λ c κs. search needs)
-    (λ c. search needs)
-    (λ c. search needs)
-    (λ c κs. search needs)
-    (λ c κs. search needs)
-    (λ c κs. search needs)
-    (λ c. search needs)
-    (λ c κs. search needs)
-    (λ c. search needs)
-    (λ c. search needs)
-    (λ c κs. search needs)
-    (λ c. search needs)
-    (λ c. search needs)
-    (λ c κs. search needs)
-    (λ c κs. search needs)
-    (λ c κs. search needs)
-    (λ c. search needs)
-    (λ c κs. search needs)
-    (λ c. search needs)
-    (λ c κs. search needs)
-    (λ c. search needs)
-    (λ c. search needs)
-    (λ c κs. search needs)
-    (λ c. search needs)
-    (λ c. search needs)
-    (λ c κs. search needs)
-    (λ c. search needs)
-    returns
-    (λ c. search needs)
-    returns-2
-    (λ c. search needs)
-    returns-3
-    (λ c. search needs)
-    returns-4
-    (λ c. search needs)
-    returns-5
-    (λ c. search needs)
-    returns-6
-    (λ c. search needs)
-    returns-7
-    (λ c. search needs)
-    returns-8
-    (λ c. search needs)
-    returns-9
-    (λ c. search needs)
-    returns-10
-    (λ c. search needs)
-    returns-11
-    (λ c. search needs)
-    returns-12)
+    (tie.spec (λ c. search needs) (λ c. search needs) (λ c κs. search needs) (λ c. search needs) (λ c. search needs)
+    (λ c κs. search needs) (λ c. search needs) (λ c. search needs) (λ c κs. search needs) (λ c. search needs) (λ c. search needs)
+    (λ c κs. search needs) (λ c κs. search needs) (λ c κs. search needs) (λ c. search needs) (λ c. search needs) (λ c κs. search needs)
+    (λ c κs. search needs) (λ c κs. search needs) (λ c. search needs) (λ c κs. search needs) (λ c. search needs) (λ c κs. search needs)
+    (λ c. search needs) (λ c. search needs) (λ c κs. search needs) (λ c κs. search needs) (λ c κs. search needs) (λ c. search needs)
+    (λ c κs. search needs) (λ c. search needs) (λ c κs. search needs) (λ c. search needs) (λ c κs. search needs) (λ c. search needs)
+    (λ c κs. search needs) (λ c. search needs) returns (λ c. search needs) returns-2 (λ c. search needs) returns-3 (λ c. search needs)
+    returns-4 (λ c. search needs) returns-5 (λ c. search needs) returns-6 (λ c. search needs) returns-7 (λ c. search needs) returns-8
+    (λ c. search needs) returns-9 (λ c. search needs) returns-10 (λ c. search needs) returns-11 (λ c. search needs) returns-12)

@@ -15,11 +15,5 @@ returns-2 c = rw (c .before .binary .ensures, c .if1 .left)
 pub sbc-spec : {M : Type 1} → statement M
 sbc-spec =
     tie.close
-    (tie.spec
-    (λ c. search needs)
-    (λ c κs. search needs)
-    (λ c κs. search needs)
-    (λ c. search needs)
-    (λ c κs. search needs)
-    returns
+    (tie.spec (λ c. search needs) (λ c κs. search needs) (λ c κs. search needs) (λ c. search needs) (λ c κs. search needs) returns
     returns-2)
