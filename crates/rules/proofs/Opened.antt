@@ -12,5 +12,8 @@ use Rattle.rules.specs.Run.{play, runOf}
 use Rattle.rules.specs.Restart.{restart, appendAt}
 
 unfoldable pub opened : Unit {0}
-unfolding _>>=_ run lowSum highSum lowDifference highDifference changed decode pointer zeroIndexed indexed loadIndexed load place used inside taken branchTo enter push pull jsr rts rti brk jumpIndirect perform operate instruction eventOf interrupt reset cyclesOf selected imageAt cellOf resetBus look stored listOf stateOf recordOf wellFormed finished step play runOf restart appendAt
+unfolding _>>=_ run lowSum highSum lowDifference highDifference changed decode pointer zeroIndexed indexed loadIndexed load place
+    used inside taken branchTo enter push pull jsr rts rti brk jumpIndirect perform operate instruction eventOf interrupt reset
+    cyclesOf selected imageAt cellOf resetBus look stored listOf stateOf recordOf wellFormed finished step play runOf restart
+    appendAt
 opened = tt
