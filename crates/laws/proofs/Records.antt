@@ -1,6 +1,5 @@
 -- A well-formed record read and written again is the same sixteen bytes, and a state written and read again is the same state. Every
--- state that
--- a step writes is well formed.
+-- state that a step writes is well formed.
 use Prim.Native.Nat.{ℕ, zero, suc, _+_, _/_, _%_, _<_, _≤_}
 use native.Mathlib.Omega.{arith}
 use mathlib.Core.Path.{_≡_, refl, sym, ap, _∙_}

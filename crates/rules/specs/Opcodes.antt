@@ -50,8 +50,7 @@ instructionOf (word f) low high = f low high
 instructionOf (late f) low high = f low
 
 -- The modes as the document writes them: #, z, a, (z,X), .., by the length of their operand. "Only the last one or two accesses of B1 and
--- 91
--- (after the pointer) use the indirect bank": ⟨z⟩Yᵢ is their (z),Y.
+-- 91 (after the pointer) use the indirect bank": ⟨z⟩Yᵢ is their (z),Y.
 pub data Form : Type 0 where
   one : (ℕ → Mode) → Form
   two : (ℕ → ℕ → Mode) → Form
@@ -133,9 +132,8 @@ others =
     0x10 is byte (Branch Bpl) ∷ 0x30 is byte (Branch Bmi) ∷ 0x50 is byte (Branch Bvc) ∷ 0x70 is byte (Branch Bvs) ∷
     0x90 is byte (Branch Bcc) ∷ 0xB0 is byte (Branch Bcs) ∷ 0xD0 is byte (Branch Bne) ∷ 0xF0 is byte (Branch Beq) ∷
     -- JMP a, JMP (a), JSR, RTS, RTI, BRK, NOP
-    0x4C is word Jump ∷ 0x6C is word JumpIndirect ∷ 0x20 is late Jsr ∷ 0x60 is alone (AtStack Rts) ∷ 0x40 is alone
-    (AtStack Rti) ∷ 0x00 is alone Brk ∷
-    0xEA is alone (Implied Nop) ∷
+    0x4C is word Jump ∷ 0x6C is word JumpIndirect ∷ 0x20 is late Jsr ∷ 0x60 is alone (AtStack Rts) ∷ 0x40 is alone (AtStack Rti) ∷
+    0x00 is alone Brk ∷ 0xEA is alone (Implied Nop) ∷
     -- PHP PLP PHA PLA
     0x08 is alone (AtStack Php) ∷ 0x28 is alone (AtStack Plp) ∷ 0x48 is alone (AtStack Pha) ∷ 0x68 is alone (AtStack Pla) ∷
     -- CLC SEC CLI SEI CLV CLD SED

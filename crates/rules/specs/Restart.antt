@@ -46,8 +46,7 @@ standing k rs = drop (length rs - k / 16) rs
 
 -- A file that appends and power dips made, from nothing, in which these records, completely written, stand, the last one first. An append
 -- that is cut leaves fewer than sixteen bytes t in its place: the first ones of its record, none, or, while a tail is being dropped, what
--- is
--- left of that. And the file may lose its end at any time, to any prefix of it, and older records with it.
+-- is left of that. And the file may lose its end at any time, to any prefix of it, and older records with it.
 pub data Grown : List (List ℕ) → List ℕ → Type 0 where
   empty : Grown [] []
   done : {rs : List (List ℕ)} {file : List ℕ} (r : List ℕ) (p : ℕ) → Grown rs file → appendAt (length file) ≡ At p → length r ≡ 16 →
