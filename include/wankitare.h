@@ -65,33 +65,34 @@ enum {
        restart from, or no place for one more. */
     WANKITARE_FILE_LENGTH = 8,
 
-    /* Admission: image_len, c or map_len. image_len is not 65,536, c is 0 or 255, or map_len is 0, over 65,536 or no
-       multiple of 8. */
+    /* Admission: image_len, c or map_len does not fit. image_len is not 65,536, c is 0 or 255, or map_len is 0, over
+       65,536 or no multiple of 8. */
     WANKITARE_ADMISSION_INPUT = 10,
 
     /* The map record at wankitare_index is malformed or does not ascend. It has no kind from 1 to 3 or no three zeros
        at its end, or its address is not above that of the record before it. */
     WANKITARE_MAP_RECORD = 11,
 
-    /* The vectors, or the room on the stack. FFFC does not point to a main record of height 0, or FFFE not to a
-       handler's; or their needs and the three bytes of an interrupt do not fit into the stack's 256. */
+    /* A vector points to what is not marked so, or the stack has too little room. FFFC does not point to a main record
+       of height 0, or FFFE not to a handler's; or their needs and the three bytes of an interrupt do not fit into the
+       stack's 256. */
     WANKITARE_VECTORS_OR_ROOM = 12,
 
     /* The instruction at wankitare_index lies outside the protected pages, or its opcode is undefined or barred. It does
        not lie whole in them; or its opcode is none of the 151, or BRK, PLP, JMP (a), 81 or 91. */
     WANKITARE_PLACE_OR_OPCODE = 13,
 
-    /* It could write the stack page. It is a store, shift, INC or DEC whose absolute address is 0100 to 01FF, or whose
+    /* The instruction could write the stack page. It is a store, shift, INC or DEC whose absolute address is 0100 to 01FF, or whose
        a,X or a,Y base is 0001 to 01FF. */
     WANKITARE_STORE_ADDRESS = 14,
 
-    /* It is TXS, CLI, RTS, RTI or PLA, of the wrong kind or height. TXS outside main or not at height 0; CLI outside
-       main; RTS not in a routine at height 0; RTI not in a handler at height 0; PLA at height 0. */
+    /* The instruction is TXS, CLI, RTS, RTI or PLA, of the wrong kind or height. TXS outside main or not at height 0;
+       CLI outside main; RTS not in a routine at height 0; RTI not in a handler at height 0; PLA at height 0. */
     WANKITARE_KIND_OR_HEIGHT = 15,
 
-    /* It leads to an instruction that is not marked as it must be. That has no record, or one of another kind, a height
-       that does not follow, or more need than it leaves; or a JSR calls what is no routine of height 0, or one that
-       needs too much. */
+    /* The instruction leads to one that is not marked as it must be. That has no record, or one of another kind, a
+       height that does not follow, or more need than it leaves; or a JSR calls what is no routine of height 0, or one
+       that needs too much. */
     WANKITARE_SUCCESSOR = 16,
 
     /* Counting by page: accesses_len is no multiple of 8, so the list is cut. */

@@ -2,7 +2,7 @@
 use Prim.Native.Nat.{ℕ}
 use Rattle.rules.specs.Opcodes.{Entry, undefined, alone, byte, word, late}
 
--- how many bytes are fetched before the instruction's own accesses: the opcode, and the operand; "JSR: low, .., then high operand"
+-- how many bytes are fetched before the instruction's own accesses: the opcode, and the operand; "JSR: low .. then high operand"
 abbrev pub fetchedBy : Entry → ℕ
 fetchedBy undefined = 1
 fetchedBy (alone i) = 1

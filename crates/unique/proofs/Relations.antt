@@ -1,4 +1,4 @@
--- What the relations of bus say of an exit is a function of the entry.
+-- What `Goes`, `Does`, `Writes` and their like say of an exit is a function of the entry.
 use Prim.Native.Nat.{ℕ, _+_, _*_, _/_}
 use native.Mathlib.Omega.{arith}
 use mathlib.Core.Path.{_≡_, refl, sym, ap, _∙_}
