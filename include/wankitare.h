@@ -78,12 +78,12 @@ enum {
        stack's 256. */
     WANKITARE_VECTORS_OR_ROOM = 12,
 
-    /* The instruction at wankitare_index lies outside the protected pages, or its opcode is undefined or barred. It does
-       not lie whole in them; or its opcode is none of the 151, or BRK, PLP, JMP (a), 81 or 91. */
+    /* The instruction at wankitare_index lies outside the protected pages, or its opcode is undefined or barred. It
+       does not lie whole in them; or its opcode is none of the 151, or BRK, PLP, JMP (a), 81 or 91. */
     WANKITARE_PLACE_OR_OPCODE = 13,
 
-    /* The instruction could write the stack page. It is a store, shift, INC or DEC whose absolute address is 0100 to 01FF, or whose
-       a,X or a,Y base is 0001 to 01FF. */
+    /* The instruction could write the stack page. It is a store, shift, INC or DEC whose absolute address is 0100 to
+       01FF, or whose a,X or a,Y base is 0001 to 01FF. */
     WANKITARE_STORE_ADDRESS = 14,
 
     /* The instruction is TXS, CLI, RTS, RTI or PLA, of the wrong kind or height. TXS outside main or not at height 0;
