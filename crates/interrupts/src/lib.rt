@@ -52,8 +52,8 @@ fn three_reads(state: &[u8], w: Wiring, image: &[u8], list: &mut [u8], s: u8)
 pub fn reset(state: &mut [u8], w: Wiring, image: &[u8], list: &mut [u8])
     requires { ⌜ Ready w (length (now state)) (length (now image)) (length (now list)) ⌝ }
     ensures { λ r. ⌜ ((s : State) → Stands execution s (now (state .entry)) w →
-        Does (reset (s .cpu)) 0 s (now (image .entry)) (now (list .entry)) 7 (now (state .exit)) (now (image .entry)) (now (list .exit)))
-        ⌝ }
+        Does (reset (s .cpu)) 0 s (now (image .entry)) (now (list .entry)) 7 (now (state .exit))
+        (now (image .entry)) (now (list .exit))) ⌝ }
 {
     let pc = state::pc_of(state);
     let s = state[state::S];

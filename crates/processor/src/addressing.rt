@@ -45,8 +45,8 @@ fn old_page(a: u16, i: u8) -> u16
 fn pointer(state: &[u8], w: Wiring, image: &[u8], list: &mut [u8], k: usize, z: u8) -> u16
     requires { ⌜ (k < 6) × Ready w (length (now state)) (length (now image)) (length (now list)) ⌝ }
     ensures { λ r. ⌜ ((s : State) → Stands execution s (now (state .entry)) w →
-        Goes (pointer z) k (s .bus) (now (image .entry)) (now (list .entry)) r (k + 2) (s .bus) (now (image .entry)) (now (list .exit)))
-        ⌝ }
+        Goes (pointer z) k (s .bus) (now (image .entry)) (now (list .entry)) r (k + 2) (s .bus)
+        (now (image .entry)) (now (list .exit))) ⌝ }
 {
     let above = std::num::wrapping_add_u8(z, 1) as u16;
     reads::word_at(state, w, image, list, k, z as u16, above)
@@ -56,8 +56,8 @@ fn pointer(state: &[u8], w: Wiring, image: &[u8], list: &mut [u8], k: usize, z: 
 fn zero_indexed(state: &[u8], w: Wiring, image: &[u8], list: &mut [u8], z: u8, i: u8) -> u8
     requires { ⌜ Ready w (length (now state)) (length (now image)) (length (now list)) ⌝ }
     ensures { λ r. ⌜ ((s : State) → Stands execution s (now (state .entry)) w →
-        Goes (zeroIndexed z i) 2 (s .bus) (now (image .entry)) (now (list .entry)) r 3 (s .bus) (now (image .entry)) (now (list .exit)))
-        ⌝ }
+        Goes (zeroIndexed z i) 2 (s .bus) (now (image .entry)) (now (list .entry)) r 3 (s .bus)
+        (now (image .entry)) (now (list .exit))) ⌝ }
 {
     reads::read(state, w, image, list, 2, z as u16);
     std::num::wrapping_add_u8(z, i)

@@ -126,8 +126,8 @@ fn lay(
 ) -> usize
     requires { ⌜ (Lays i m × (short i ≡ true)) × Ready w (length (now state)) (length (now image)) (length (now list)) ⌝ }
     ensures { λ r. ⌜ (r ≤ 7) × ((s : State) → Fetched (highIn m) s (now (state .entry)) (now (image .entry)) w pc →
-        Does (rest i (s .cpu)) 2 s (now (image .entry)) (now (list .entry)) r (now (state .exit)) (now (image .exit)) (now (list .exit)))
-        ⌝ }
+        Does (rest i (s .cpu)) 2 s (now (image .entry)) (now (list .entry)) r (now (state .exit))
+        (now (image .exit)) (now (list .exit))) ⌝ }
 {
     let at = addressing::place(m, pc, state, w, image, list);
     match i {
@@ -315,8 +315,8 @@ fn perform(
 ) -> usize
     requires { ⌜ (short i ≡ true) × Ready w (length (now state)) (length (now image)) (length (now list)) ⌝ }
     ensures { λ r. ⌜ (r ≤ 7) × ((s : State) → Fetched (highOf i) s (now (state .entry)) (now (image .entry)) w pc →
-        Does (rest i (s .cpu)) 2 s (now (image .entry)) (now (list .entry)) r (now (state .exit)) (now (image .exit)) (now (list .exit)))
-        ⌝ }
+        Does (rest i (s .cpu)) 2 s (now (image .entry)) (now (list .entry)) r (now (state .exit))
+        (now (image .exit)) (now (list .exit))) ⌝ }
 {
     match i {
         Instruction::Read(o, m) => read_into(o, m, pc, state, w, image, list),

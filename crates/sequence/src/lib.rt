@@ -14,8 +14,8 @@ ghost use Rattle.sequence.specs.Pushes.{pushThree};
 pub fn push_three(state: &[u8], w: Wiring, image: &mut [u8], list: &mut [u8], pc: u16, s: u8, p: u8)
     requires { ⌜ Ready w (length (now state)) (length (now image)) (length (now list)) ⌝ }
     ensures { λ r. ⌜ ((t : State) → Stands execution t (now (state .entry)) w →
-        Goes (pushThree pc s p) 2 (t .bus) (now (image .entry)) (now (list .entry)) tt 5 (t .bus) (now (image .exit)) (now (list .exit)))
-        ⌝ }
+        Goes (pushThree pc s p) 2 (t .bus) (now (image .entry)) (now (list .entry)) tt 5 (t .bus)
+        (now (image .exit)) (now (list .exit))) ⌝ }
 {
     writes::push_pc(state, w, image, list, 2, pc, s);
     writes::push(state, w, image, list, 4, bytes::down(2, s), p);

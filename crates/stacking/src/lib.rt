@@ -20,8 +20,8 @@ ghost use Rattle.stacking.specs.Pulled.{pulledAt};
 fn push(v: u8, state: &mut [u8], w: Wiring, image: &mut [u8], list: &mut [u8])
     requires { ⌜ Ready w (length (now state)) (length (now image)) (length (now list)) ⌝ }
     ensures { λ r. ⌜ ((s : State) → Stands execution s (now (state .entry)) w →
-        Does (push v (s .cpu)) 2 s (now (image .entry)) (now (list .entry)) 3 (now (state .exit)) (now (image .exit)) (now (list .exit)))
-        ⌝ }
+        Does (push v (s .cpu)) 2 s (now (image .entry)) (now (list .entry)) 3 (now (state .exit))
+        (now (image .exit)) (now (list .exit))) ⌝ }
 {
     let s = state[state::S];
     writes::push(state, w, image, list, 2, s, v);

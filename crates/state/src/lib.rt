@@ -58,8 +58,8 @@ pub fn set_flags(state: &mut [u8], f: Flags)
 // A byte into a register of this place, and its N and Z.
 pub fn to(state: &mut [u8], register: usize, v: u8)
     requires { ⌜ (length (now state) ≡ 16) × (register < 16) ⌝ }
-    ensures { λ r. ⌜ now (state .exit) ≡ set (set (now (state .entry)) 5 (byteOf (nz v (flagsOf (at (now (state .entry)) 5))))) register
-        v ⌝ }
+    ensures { λ r. ⌜ now (state .exit)
+        ≡ set (set (now (state .entry)) 5 (byteOf (nz v (flagsOf (at (now (state .entry)) 5))))) register v ⌝ }
 {
     let f = flags_of(state);
     set_flags(state, flags::nzc(v, f.c, f));
