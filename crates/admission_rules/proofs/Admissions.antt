@@ -64,10 +64,10 @@ records-hold f i (suc n) h =
 
 record-holds : (f : ℕ → List Test) (i n : ℕ) → Hold (ofRecords f i n) → (k : ℕ) → i ≤ k → k < i + n → Hold (f k)
 record-holds f i zero h k a b = absurd (omega arith)
-record-holds f i (suc n) h k a b = go (ℕ-discrete k i) (record-holds f (suc i) n (search (hold-left, hold-right)) k)
+record-holds f i (suc n) h k a b = go (ℕ-discrete k i) (record-holds f (suc i) n (search hold-right) k)
   where
     go : Dec (k ≡ i) → (suc i ≤ k → k < suc i + n → Hold (f k)) → Hold (f k)
-    go (yes e) later = rw e (search (hold-left, hold-right))
+    go (yes e) later = rw e (search hold-left)
     go (no e) later = later (omega arith) (omega arith)
 
 module _ {M : Type 0} (memory : Memory M) (m : M) (c : ℕ) (map : List ℕ) where

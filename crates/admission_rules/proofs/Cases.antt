@@ -84,20 +84,27 @@ maps =
     -- 7 12: the vectors' kinds and heights
     ∷ same (marking 0 2 2 ∷ marking 0 3 1 ∷ marking 12 2 1 ∷ marking 12 3 1 ∷ []) (12 ∷ 12 ∷ 12 ∷ 12 ∷ [])
     -- 8 13: undefined, BRK, PLP; JMP (a), 81, 91
-    ∷ same (code 2 (0x02 ∷ []) ∷ code 2 (0x00 ∷ []) ∷ code 2 (0x28 ∷ []) ∷ []) (number 13 1 ∷ number 13 1 ∷ number 13 1 ∷ [])
-    ∷ same (code 13 (0x6C ∷ []) ∷ code 8 (0x81 ∷ []) ∷ code 8 (0x91 ∷ []) ∷ []) (number 13 7 ∷ number 13 5 ∷ number 13 5 ∷ [])
+    ∷ same (code 2 (0x02 ∷ []) ∷ code 2 (0x00 ∷ []) ∷ code 2 (0x28 ∷ []) ∷ [])
+    (number 13 1 ∷ number 13 1 ∷ number 13 1 ∷ [])
+    ∷ same (code 13 (0x6C ∷ []) ∷ code 8 (0x81 ∷ []) ∷ code 8 (0x91 ∷ []) ∷ [])
+    (number 13 7 ∷ number 13 5 ∷ number 13 5 ∷ [])
     -- 10 in no protected page; JMP at FFFE, past FFFF; BMI at FFFE, whose next address is 0000, is 16
-    ∷ same (below [] ∷ wraps ∷ judged (firmware 1) 1 (marks ++ mark 0xFE 1 0 0) ∷ []) (number 13 0 ∷ number 13 2 ∷ number 16 13 ∷ [])
+    ∷ same (below [] ∷ wraps ∷ judged (firmware 1) 1 (marks ++ mark 0xFE 1 0 0) ∷ [])
+    (number 13 0 ∷ number 13 2 ∷ number 16 13 ∷ [])
     -- 11 14: STA 0100, 01FF, 00FF; INC 0001,X, 01FF,X, 0000,X; STA 0001,Y, 01FF,Y, 0000,Y
     ∷ same (code 12 (0x01 ∷ []) ∷ code 11 (0xFF ∷ 0x01 ∷ []) ∷ code 11 (0xFF ∷ 0x00 ∷ []) ∷ []) (number 14 6 ∷ number 14 6 ∷ 0 ∷ [])
     ∷ same (code 35 (0x01 ∷ 0x00 ∷ []) ∷ code 35 (0xFF ∷ 0x01 ∷ []) ∷ code 35 (0x00 ∷ 0x00 ∷ []) ∷ [])
     (number 14 10 ∷ number 14 10 ∷ 0 ∷ [])
-    ∷ same (code 10 (0x99 ∷ 0x01 ∷ 0x00 ∷ []) ∷ code 10 (0x99 ∷ 0xFF ∷ 0x01 ∷ []) ∷ code 10 (0x99 ∷ 0x00 ∷ 0x00 ∷ []) ∷ [])
+    ∷ same (code 10 (0x99 ∷ 0x01 ∷ 0x00 ∷ []) ∷ code 10 (0x99 ∷ 0xFF ∷ 0x01 ∷ []) ∷ code 10
+    (0x99 ∷ 0x00 ∷ 0x00 ∷ []) ∷ [])
     (number 14 6 ∷ number 14 6 ∷ 0 ∷ [])
     -- 14 15: RTS in main, RTI and TXS and CLI in a routine, RTS in a handler, PLA at height 0; at height 1 RTS, TXS and RTI
-    ∷ same (code 2 (0x60 ∷ []) ∷ code 33 (0x40 ∷ []) ∷ code 33 (0x9A ∷ []) ∷ []) (number 15 1 ∷ number 15 9 ∷ number 15 9 ∷ [])
-    ∷ same (code 33 (0x58 ∷ []) ∷ code 48 (0x60 ∷ []) ∷ code 2 (0x68 ∷ []) ∷ []) (number 15 9 ∷ number 15 12 ∷ number 15 1 ∷ [])
-    ∷ same (code 33 (0x60 ∷ []) ∷ code 7 (0x9A ∷ []) ∷ both 48 (0x48 ∷ 0x40 ∷ []) (with 12 4 1 marks ++ mark 0x31 3 1 0) ∷ [])
+    ∷ same (code 2 (0x60 ∷ []) ∷ code 33 (0x40 ∷ []) ∷ code 33 (0x9A ∷ []) ∷ [])
+    (number 15 1 ∷ number 15 9 ∷ number 15 9 ∷ [])
+    ∷ same (code 33 (0x58 ∷ []) ∷ code 48 (0x60 ∷ []) ∷ code 2 (0x68 ∷ []) ∷ [])
+    (number 15 9 ∷ number 15 12 ∷ number 15 1 ∷ [])
+    ∷ same (code 33 (0x60 ∷ []) ∷ code 7 (0x9A ∷ []) ∷ both 48 (0x48 ∷ 0x40 ∷ [])
+    (with 12 4 1 marks ++ mark 0x31 3 1 0) ∷ [])
     (number 15 9 ∷ number 15 4 ∷ number 15 13 ∷ [])
     -- 17 16: next address unmarked, of another kind, height, need; branch and jump target; JSR's target no routine, or its need
     ∷ same (code 0 (0xEA ∷ []) ∷ marking 3 2 2 ∷ marking 3 3 1 ∷ marking 3 4 4 ∷ [])
@@ -117,14 +124,16 @@ computed-maps = refl
 abbrev orders : List Bool
 orders =
     -- 1 10 and 11, two records by 11, 11 and 12, 12 and 13
-    same (judged (firmware 1) 0 (with 2 2 0 marks) ∷ judged (firmware 1) 1 (with 2 2 0 (with 5 2 0 marks)) ∷ []) (10 ∷ number 11 2 ∷ [])
+    same (judged (firmware 1) 0 (with 2 2 0 marks) ∷ judged (firmware 1) 1 (with 2 2 0 (with 5 2 0 marks)) ∷ [])
+    (10 ∷ number 11 2 ∷ [])
     ∷ same (marking 0 0 0x02 ∷ judged (firmware 1) 1 (with 0 2 2 (with 12 7 1 marks)) ∷ []) (number 11 1 ∷ number 11 12 ∷ [])
     ∷ same (both 0 (0x02 ∷ []) (with 12 2 1 marks) ∷ []) (12 ∷ [])
     -- 4 a record by 16 and the next by 13, by 14 and the next by 13, by 15 and a later one by 13
     ∷ same (code 0 (0xEA ∷ 0xEA ∷ 0x02 ∷ []) ∷ code 12 (0x01 ∷ 0x6C ∷ []) ∷ []) (number 16 0 ∷ number 14 6 ∷ [])
     ∷ same (code 2 (0x60 ∷ 0x20 ∷ 0x20 ∷ 0xFF ∷ 0x48 ∷ 0x68 ∷ 0x81 ∷ []) ∷ []) (number 15 1 ∷ [])
     -- 6 one record by 13 and 14, 13 and 15, 13 and 16; 14 and 16, 15 and 16
-    ∷ same (below (0x8D ∷ 0x00 ∷ 0x01 ∷ []) ∷ below (0x60 ∷ []) ∷ code 0 (0x28 ∷ []) ∷ []) (number 13 0 ∷ number 13 0 ∷ number 13 0 ∷ [])
+    ∷ same (below (0x8D ∷ 0x00 ∷ 0x01 ∷ []) ∷ below (0x60 ∷ []) ∷ code 0 (0x28 ∷ []) ∷ [])
+    (number 13 0 ∷ number 13 0 ∷ number 13 0 ∷ [])
     ∷ same (code 13 (0x8D ∷ 0x00 ∷ 0x01 ∷ []) ∷ code 13 (0x68 ∷ []) ∷ []) (number 14 7 ∷ number 15 7 ∷ [])
     ∷ []
 

@@ -130,7 +130,8 @@ module _ (m₀ : List ℕ) (c : ℕ) (map : List ℕ) (ad : Admitted m₀ c map)
     effect-is : effect lines pins s ≡ effectAt e (effectHere m₀ c map ad (u .cpu) (s .image))
     effect-is = rw opcode-is
 
-    can : (d : Event) → (d ≡ Execute → isDefined (decode (at (s .image) (u .cpu .pc))) ≡ true) → canStep images d u (s .image) ≡ true
+    can : (d : Event) → (d ≡ Execute → isDefined (decode (at (s .image) (u .cpu .pc))) ≡ true) →
+        canStep images d u (s .image) ≡ true
     can Res h = refl
     can Nmi h = refl
     can Irq h = refl
@@ -244,7 +245,8 @@ module _ (m₀ : List ℕ) (c : ℕ) (map : List ℕ) (ad : Admitted m₀ c map)
         tested-all tests (stopped (startOf r x)) (play images (x .script) (startOf r x)) hold
 
     call-plays : (Then : Outcome Tally (List ℕ) → Stacked → Type 0) → Begins (x .script) (startOf r x) k →
-        ((t : Outcome Tally (List ℕ)) (l : Stacked) → Sixteen c (t .state) → Ready m₀ c map ad (cpuIn (t .state)) (t .image) l → Then t l) →
+        ((t : Outcome Tally (List ℕ)) (l : Stacked) → Sixteen c (t .state) →
+        Ready m₀ c map ad (cpuIn (t .state)) (t .image) l → Then t l) →
         Plays map (λ t l. (runOf images r (x .image) (x .script) (x .buffer) ≡ played t) × Then t l) (x .script) (startOf r x) k
     call-plays Then b end =
         plays _ (x .script) (startOf r x) k six b (p .script) (omega (arith, p .room))

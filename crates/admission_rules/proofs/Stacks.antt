@@ -172,7 +172,8 @@ module _ (map : List ℕ) (N : ℕ) where
         }
 
     -- on in the same routine, the stack as it was
-    pub stays : (flag′ : Bool) (pc′ : ℕ) (m′ : List ℕ) → Leads map pc′ kind height 0 need → (v .busy ≡ true → flag′ ≡ true) →
+    pub stays : (flag′ : Bool) (pc′ : ℕ) (m′ : List ℕ) → Leads map pc′ kind height 0 need →
+        (v .busy ≡ true → flag′ ≡ true) →
         SamePage m m′ → Stands s flag′ pc′ m′ k
     stays flag′ pc′ m′ x masked same =
         record {
@@ -267,7 +268,8 @@ module _ (map : List ℕ) (N : ℕ) where
     After d flag′ pc′ = Stands (sum8 s d) flag′ pc′ m (record { pushed = k .pushed; pulled = k .pulled + d })
 
     -- they were a frame's, and its mark goes on with its own
-    goes-on : (d : ℕ) {flag′ : Bool} {pc′ i : ℕ} (own : List ℕ) (fs : List Frame) {busy : Bool} → Goes i own (bytesOf fs) busy →
+    goes-on : (d : ℕ) {flag′ : Bool} {pc′ i : ℕ} (own : List ℕ) (fs : List Frame) {busy : Bool} →
+        Goes i own (bytesOf fs) busy →
         markAt map i .address ≡ pc′ → Chain (markAt map i .kind) fs busy → (busy ≡ true → flag′ ≡ true) →
         Holds m (sum8 s d) (own ++ bytesOf fs) → k .pushed ≡ k .pulled + (d + length (own ++ bytesOf fs)) → After d flag′ pc′
     goes-on d {i = i} own fs {busy = busy} goes address chain masked holds n =
@@ -322,7 +324,8 @@ module _ (map : List ℕ) (N : ℕ) where
             goes-on 3 own fs on (rw (y .1 .0, y .1 .1 .0) (sym back)) c (λ h. absurd (false≢true h)) (y .1 .1 .1) (omega arith)
 
     -- IRQ: it is taken only where no handler runs
-    pub interrupts : flag ≡ false → s < 256 → length m ≡ 65536 → (p low high to H : ℕ) → address low high ≡ pc → N + H + 3 ≤ 256 →
+    pub interrupts : flag ≡ false → s < 256 → length m ≡ 65536 → (p low high to H : ℕ) → address low high ≡ pc →
+        N + H + 3 ≤ 256 →
         Leads map to handler 0 0 H →
         Stands (down 3 s) true to (set (set (set m (stack s) high) (stack (down 1 s)) low) (stack (down 2 s)) p)
         (record { pushed = k .pushed + 3; pulled = k .pulled })

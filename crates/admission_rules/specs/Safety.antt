@@ -150,7 +150,8 @@ module _ (lines pins : ℕ) (s : Outcome Tally (List ℕ)) where
     pub most : stackedAfter effect k .pushed ≤ stackedAfter effect k .pulled + 256
 
 -- Each step of a call that stands at s is fine, the next one gets what it leaves, and where the last one leaves off Then holds.
-abbrev pub Plays : List ℕ → (Outcome Tally (List ℕ) → Stacked → Type 0) → List ℕ → Outcome Tally (List ℕ) → Stacked → Type 0
+abbrev pub Plays : List ℕ → (Outcome Tally (List ℕ) → Stacked → Type 0) → List ℕ → Outcome Tally (List ℕ) →
+    Stacked → Type 0
 Plays map Then [] s k = Then s k
 Plays map Then (lines ∷ []) s k = Then s k
 Plays map Then (lines ∷ pins ∷ script) s k =

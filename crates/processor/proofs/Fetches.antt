@@ -114,7 +114,8 @@ opened n pc t {m} {u} {u′} {i} {l} {i′} {l₁} {l′} {a} = go (eqb n 3)
     go true d e = then-do t d e
     go false d e = then-do t d e
 
-pub reaches : {f : Cpu → Mode → Cycles ℕ} {m : Mode} {s : State} {i l r′ l₁ l′ : List ℕ} {v n : ℕ} → Opens (modeSize m) s i l r′ l₁ →
+pub reaches : {f : Cpu → Mode → Cycles ℕ} {m : Mode} {s : State} {i l r′ l₁ l′ : List ℕ} {v n : ℕ} →
+    Opens (modeSize m) s i l r′ l₁ →
     Goes (f (past (modeSize m) (s .cpu)) m) (begunBy (modeSize m)) (s .bus) i l₁ v n (s .bus) i l′ → Reaches f m s i l v n r′ l′
 reaches {m = m} {s = s} o g = record { bytes = o .bytes; goes = opened (modeSize m) (s .cpu .pc) _ (o .goes) g }
 

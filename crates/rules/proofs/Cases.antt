@@ -69,7 +69,8 @@ steps =
     && reads o 5 0xFFFE 0 0)
     ∷ writes (on 7 0 0xFF 0x24 (0x08 ∷ [])) 2 0x01FF 0 0x34
     -- 21 JMP (80FF) takes its high byte from "the next location"
-    ∷ pcIs (runs (state 2 0 0 0 0x20 0x8000) (zeros 1 from 0x8000 holds (0x6C ∷ 0xFF ∷ 0x80 ∷ []) from 0x80FF holds (0x34 ∷ 0x12 ∷ [])))
+    ∷ pcIs (runs (state 2 0 0 0 0x20 0x8000)
+    (zeros 1 from 0x8000 holds (0x6C ∷ 0xFF ∷ 0x80 ∷ []) from 0x80FF holds (0x34 ∷ 0x12 ∷ [])))
     0x34 0x12
     -- 22 JSR at 01FD, S = FF, reads its high operand after the pushes
     ∷ reads (runs (state 2 0 0 0xFF 0x20 0x01FD) (zeros 1 from 0x01FD holds (0x20 ∷ 0x34 ∷ 0x12 ∷ []))) 5 0x01FF 0 0x01
@@ -91,21 +92,25 @@ steps =
     -- 32 a compare: below, equal; BIT takes N, V from memory
     ∷ results (on 0x10 0 0 0x21 (0xC9 ∷ 0x20 ∷ [])) 2 0x10 0 0xA0
     ∷ results (on 0x10 0 0 0x20 (0xC9 ∷ 0x10 ∷ [])) 2 0x10 0 0x23
-    ∷ results (runs (state 2 0x3F 0 0 0x20 0x8000) (zeros 1 from 0x8000 holds (0x24 ∷ 0x10 ∷ []) from 0x10 holds (0xC0 ∷ []))) 3 0x3F 0 0xE2
+    ∷ results (runs (state 2 0x3F 0 0 0x20 0x8000) (zeros 1 from 0x8000 holds (0x24 ∷ 0x10 ∷ []) from 0x10 holds (0xC0 ∷ []))) 3
+    0x3F 0 0xE2
     -- 35 TXS sets no flags, TSX does
     ∷ results (on 7 0 0xFF 0x20 (0x9A ∷ [])) 2 7 0x00 0x20
     ∷ results (on 7 1 0x00 0x20 (0xBA ∷ [])) 2 7 0x00 0x22
     -- 37 traps: a crossing is judged from the next instruction's address, here 8100, not from the branch's own; PLA sets N
     ∷ results (runs (state 2 7 0 0xFF 0x20 0x80FE) (zeros 1 from 0x80FE holds (0xD0 ∷ 0x00 ∷ []))) 3 7 0xFF 0x20
-    ∷ results (runs (state 2 7 0 0xFE 0x20 0x8000) (zeros 1 from 0x8000 holds (0x68 ∷ []) from 0x01FF holds (0x80 ∷ []))) 4 0x80 0xFF 0xA0
+    ∷ results (runs (state 2 7 0 0xFE 0x20 0x8000) (zeros 1 from 0x8000 holds (0x68 ∷ []) from 0x01FF holds (0x80 ∷ []))) 4 0x80
+    0xFF 0xA0
     -- 39 the cycle count is 511 and then 513, "low byte first"
     ∷ same (drop 12 (runs (set (set (state 2 0 0 0 0x20 0x8000) 12 0xFF) 13 0x01) (zeros 1 from 0x8000 holds (0xEA ∷ [])) .state))
     (0x01 ∷ 0x02 ∷ 0 ∷ 0 ∷ [])
     -- 40 sums past FFFF wrap: NOP at FFFF; LDA FFFF,X, X = 1; BNE at FFFD to 0000, and at 0000 to FFFF; JMP (FFFF)
     ∷ (let o = runs (state 2 0 0 0 0x20 0xFFFF) (zeros 1 from 0xFFFF holds (0xEA ∷ [])) in reads o 1 0x0000 0 0 && pcIs o 0x00 0x00)
     ∷ (let o = on 0 1 0 0x20 (0xBD ∷ 0xFF ∷ 0xFF ∷ []) in reads o 3 0xFF00 0 0 && reads o 4 0x0000 0 0)
-    ∷ (let o = runs (state 2 0 0 0 0x20 0xFFFD) (zeros 1 from 0xFFFD holds (0xD0 ∷ 0x01 ∷ [])) in reads o 3 0xFF00 0 0 && pcIs o 0x00 0x00)
-    ∷ (let o = runs (state 2 0 0 0 0x20 0x0000) (zeros 1 from 0x0000 holds (0xD0 ∷ 0xFD ∷ [])) in reads o 3 0x00FF 0 0 && pcIs o 0xFF 0xFF)
+    ∷ (let o = runs (state 2 0 0 0 0x20 0xFFFD) (zeros 1 from 0xFFFD holds (0xD0 ∷ 0x01 ∷ [])) in reads o 3 0xFF00 0 0
+    && pcIs o 0x00 0x00)
+    ∷ (let o = runs (state 2 0 0 0 0x20 0x0000) (zeros 1 from 0x0000 holds (0xD0 ∷ 0xFD ∷ [])) in reads o 3 0x00FF 0 0
+    && pcIs o 0xFF 0xFF)
     ∷ (let o = on 0 0 0 0x20 (0x6C ∷ 0xFF ∷ 0xFF ∷ []) in reads o 3 0xFFFF 0 0 && reads o 4 0x0000 0 0)
     -- 45 decimal 20 - 01, C = 1: the low digits borrow, 19; FF + 01: 00, Z, C; ROL A of 80 with C
     ∷ results (on 0x20 0 0 0x29 (0xE9 ∷ 0x01 ∷ [])) 2 0x19 0 0x29
@@ -117,7 +122,8 @@ steps =
     -- 49 6509: "A bank change holds from the next access": after E6 00 in bank 2 the next step's opcode is read in bank 3
     ∷ (let r = registers 2 0 (state 9 7 0 0xFF 0x20 0x8000) in
     let m = zeros 4 from 0x28000 holds (0xE6 ∷ 0x00 ∷ []) from 0x38002 holds (0xEA ∷ []) in
-    same (take 8 (drop 40 (runOf charts r m (replicate 4 0) (replicate 112 0) .accesses))) (0x02 ∷ 0x80 ∷ 3 ∷ 0xEA ∷ 0 ∷ 0 ∷ 0 ∷ 0 ∷ []))
+    same (take 8 (drop 40 (runOf charts r m (replicate 4 0) (replicate 112 0) .accesses)))
+    (0x02 ∷ 0x80 ∷ 3 ∷ 0xEA ∷ 0 ∷ 0 ∷ 0 ∷ 0 ∷ []))
     ∷ []
 
 computed-steps : failing 1 steps ≡ []

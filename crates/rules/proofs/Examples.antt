@@ -59,7 +59,8 @@ on a x s p code = runs (state 2 a x s p 0x8000) (zeros 1 from 0x8000 holds code)
 
 -- it answered n accesses, and results A, S and P so
 abbrev pub results : Outcome StepAnswer Chart → ℕ → ℕ → ℕ → ℕ → Bool
-results o n a s p = same (stepWord (o .answer) ∷ at (o .state) 1 ∷ at (o .state) 4 ∷ at (o .state) 5 ∷ []) (256 * n ∷ a ∷ s ∷ p ∷ [])
+results o n a s p = same (stepWord (o .answer) ∷ at (o .state) 1 ∷ at (o .state) 4 ∷ at (o .state) 5 ∷ [])
+    (256 * n ∷ a ∷ s ∷ p ∷ [])
 
 -- its access k, counted from 0, was a read or a write of v at p, with this bank selected
 abbrev pub accessed : ℕ → Outcome StepAnswer Chart → ℕ → ℕ → ℕ → ℕ → Bool
@@ -98,10 +99,12 @@ starred =
     -- JSR at 8000, S = 00: 80 at 0100, 02 at 01FF, S = FE
     ∷ (let o = on 7 0 0x00 0x20 (0x20 ∷ 0x34 ∷ 0x12 ∷ []) in results o 6 7 0xFE 0x20 && keeps o 0x0100 0x80 && keeps o 0x01FF 0x02)
     -- PLP of FF: P = EF; of 00: 20
-    ∷ results (runs (state 2 7 0 0xFE 0x20 0x8000) (zeros 1 from 0x8000 holds (0x28 ∷ []) from 0x01FF holds (0xFF ∷ []))) 4 7 0xFF 0xEF
+    ∷ results (runs (state 2 7 0 0xFE 0x20 0x8000) (zeros 1 from 0x8000 holds (0x28 ∷ []) from 0x01FF holds (0xFF ∷ []))) 4 7 0xFF
+    0xEF
     ∷ results (runs (state 2 7 0 0xFE 0xE3 0x8000) (zeros 1 from 0x8000 holds (0x28 ∷ []))) 4 7 0xFF 0x20
     -- 6508, direction 0F, output A5, pins 5A: reads 55
-    ∷ results (tried (registers 0x0F 0xA5 (state 8 7 0 0xFF 0x20 0x8000)) (zeros 1 from 0x8000 holds (0xA5 ∷ 0x01 ∷ [])) 0 0x5A) 3 0x55
+    ∷ results (tried (registers 0x0F 0xA5 (state 8 7 0 0xFF 0x20 0x8000)) (zeros 1 from 0x8000 holds (0xA5 ∷ 0x01 ∷ [])) 0 0x5A) 3
+    0x55
     0xFF 0x20
     -- 6509, execution bank 2, E6 00: writes 02, then 03; bank 3 next
     ∷ (let o = runs (registers 2 0 (state 9 7 0 0xFF 0x20 0x8000)) (zeros 1 from 0x8000 holds (0xE6 ∷ 0x00 ∷ [])) in

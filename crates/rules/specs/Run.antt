@@ -36,7 +36,8 @@ abbrev pub stopped : {M : Type 0} → Outcome Tally M → Refusal → Outcome Ru
 stopped s e = worded (λ t. Stopped (t .steps) (t .listed) e) s
 
 -- after a step o that answered so: the rest of the run, or its end
-abbrev pub continued : {M : Type 0} → (Outcome Tally M → Outcome RunAnswer M) → Outcome Tally M → Outcome StepAnswer M → StepAnswer →
+abbrev pub continued : {M : Type 0} → (Outcome Tally M → Outcome RunAnswer M) → Outcome Tally M → Outcome StepAnswer M →
+    StepAnswer →
     Outcome RunAnswer M
 continued rest s o (Stepped n) = rest (further s o n)
 continued rest s o (Refused e) = stopped s e

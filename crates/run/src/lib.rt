@@ -56,7 +56,8 @@ fn play(
 ) -> u64
     requires { ⌜ Fits (now state) (now image) × (length (now script) % 2 ≡ 0) ⌝ }
     ensures { λ r. ⌜ left (r, now (tally .exit)) (now (state .exit)) (now (image .exit)) (now (accesses .exit))
-        ≡ worded tallied (play images (now (script .entry)) (start (now (state .entry)) (now (image .entry)) (now (accesses .entry)))) ⌝ }
+        ≡ worded tallied (play images (now (script .entry)) (start (now (state .entry)) (now (image .entry)) (now (accesses .entry))))
+        ⌝ }
 {
     let mut i: usize = 0;
     let mut listed: usize = 0;

@@ -96,7 +96,8 @@ fn word_above(state: &[u8], w: Wiring, image: &[u8], list: &mut [u8], k: usize, 
 fn rts(state: &mut [u8], w: Wiring, image: &[u8], list: &mut [u8])
     requires { ⌜ Ready w (length (now state)) (length (now image)) (length (now list)) ⌝ }
     ensures { λ r. ⌜ ((s : State) → Stands execution s (now (state .entry)) w →
-        Does (rts (s .cpu)) 2 s (now (image .entry)) (now (list .entry)) 6 (now (state .exit)) (now (image .entry)) (now (list .exit))) ⌝ }
+        Does (rts (s .cpu)) 2 s (now (image .entry)) (now (list .entry)) 6 (now (state .exit)) (now (image .entry)) (now (list .exit)))
+        ⌝ }
 {
     let s = state[state::S];
     reads::read(state, w, image, list, 2, bytes::stack(s));
@@ -109,7 +110,8 @@ fn rts(state: &mut [u8], w: Wiring, image: &[u8], list: &mut [u8])
 fn rti(state: &mut [u8], w: Wiring, image: &[u8], list: &mut [u8])
     requires { ⌜ Ready w (length (now state)) (length (now image)) (length (now list)) ⌝ }
     ensures { λ r. ⌜ ((s : State) → Stands execution s (now (state .entry)) w →
-        Does (rti (s .cpu)) 2 s (now (image .entry)) (now (list .entry)) 6 (now (state .exit)) (now (image .entry)) (now (list .exit))) ⌝ }
+        Does (rti (s .cpu)) 2 s (now (image .entry)) (now (list .entry)) 6 (now (state .exit)) (now (image .entry)) (now (list .exit)))
+        ⌝ }
 {
     let s = state[state::S];
     let two = bytes::stack(up(2, s));

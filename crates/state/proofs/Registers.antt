@@ -41,7 +41,8 @@ pub makes-p : {f g : Flags} {r r′ : List ℕ} → f ≡ g → r′ ≡ set r 5
 unfolding recordOf
 makes-p i q t e = rw (q, i, e)
 
-pub makes-result : {m n : Result} {r r′ : List ℕ} → m ≡ n → r′ ≡ set (set r 5 (byteOf (m .flags))) 1 (m .value) → Makes (withResult n) r r′
+pub makes-result : {m n : Result} {r r′ : List ℕ} → m ≡ n → r′ ≡ set (set r 5 (byteOf (m .flags))) 1 (m .value) →
+    Makes (withResult n) r r′
 unfolding recordOf
 makes-result i q t e = rw (q, i, e)
 

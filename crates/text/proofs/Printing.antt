@@ -40,19 +40,22 @@ module _ (i t t′ : List ℕ) (n : ℕ) where
       unfolding textOf inputAfter
       print-length h s = rw (le-leb 16 (length i) room, well, ne-eqb (length i) 65554 h, s .count, s .text)
 
-      print-made : (a : StepAnswer) (r m l : List ℕ) → length i ≡ 65554 → left a r m l ≡ made → Shows (stepText a r l) n t t′ →
+      print-made : (a : StepAnswer) (r m l : List ℕ) → length i ≡ 65554 → left a r m l ≡ made →
+          Shows (stepText a r l) n t t′ →
           printout n (take 18 i ++ m) t′ ≡ printing i t
       unfolding textOf inputAfter
       print-made a r m l h e s = rw (le-leb 16 (length i) room, well, eq-eqb (length i) 65554 h, ← e, s .count, s .text)
 
       pub print-step : (word : ℕ) (r m l : List ℕ) → length i ≡ 65554 → left word r m l ≡ worded stepWord made →
-          ((a : StepAnswer) → word ≡ stepWord a → Shows (stepText a r l) n t t′) → printout n (take 18 i ++ m) t′ ≡ printing i t
+          ((a : StepAnswer) → word ≡ stepWord a → Shows (stepText a r l) n t t′) →
+          printout n (take 18 i ++ m) t′ ≡ printing i t
       print-step word r m l h e s =
           let a = made .answer in
           print-made a r m l h (λ j. let o = e j in left a (o .state) (o .image) (o .accesses)) (s a (λ j. e j .answer))
 
 -- an input of the right length has an image that fits
-pub fits : (i r : List ℕ) → length r ≡ 16 → wellFormed r ≡ true → length i ≡ 65554 → Fits r (take (length i - 18) (drop 18 i))
+pub fits : (i r : List ℕ) → length r ≡ 16 → wellFormed r ≡ true → length i ≡ 65554 →
+    Fits r (take (length i - 18) (drop 18 i))
 fits i r whole formed size =
     let n : length (take (length i - 18) (drop 18 i)) ≡ 65536 = rw (rest-lent 18 i, length-drop 18 i) (omega arith) in
     record { whole = whole; formed = formed; image = rw n }

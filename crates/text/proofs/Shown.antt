@@ -26,7 +26,8 @@ count-length n h = rw (lt-ltb n 10 (omega arith))
 
 -- the lines of a step's accesses, its count and its record
 pub step-shown : (n p : ℕ) (r l t u v w : List ℕ) → n ≤ 7 → 123 ≤ length t →
-    u ≡ sets t 0 (each n (lineOf l)) → p ≡ 12 * n + length (countLine n) → v ≡ sets u (12 * n) (countLine n) → w ≡ sets v p (recordLine r) →
+    u ≡ sets t 0 (each n (lineOf l)) → p ≡ 12 * n + length (countLine n) → v ≡ sets u (12 * n) (countLine n) →
+    w ≡ sets v p (recordLine r) →
     Shows (stepText (Stepped n) r l) (p + 35) t w
 step-shown n p r l t u v w few room a e b d =
     let lines = each n (lineOf l) in

@@ -85,5 +85,6 @@ executed {s} {i} {n = n} {m = m} {r′ = r′} {i′ = i′} {l′ = l′} {r″
 abbrev pub lent-0-3 : Outcome ℕ (List ℕ) → Unit {0} × (List ℕ × (Unit {0} × (Unit {0} × (List ℕ × Unit {0}))))
 lent-0-3 o = (tt, (o .state, (tt, (tt, (o .accesses, tt)))))
 
-abbrev pub lent-1-3-4 : Outcome ℕ (List ℕ) → Unit {0} × (Unit {0} × (List ℕ × (Unit {0} × (List ℕ × (List ℕ × Unit {0})))))
+abbrev pub lent-1-3-4 : Outcome ℕ (List ℕ) →
+    Unit {0} × (Unit {0} × (List ℕ × (Unit {0} × (List ℕ × (List ℕ × Unit {0})))))
 lent-1-3-4 o = (tt, (tt, (o .state, (tt, (o .image, (o .accesses, tt))))))

@@ -8,7 +8,8 @@ use Rattle.unique.proofs.General.{UniqueWhere}
 use Rattle.unique.proofs.Relations.{goes, does}
 
 pub push-three : (s : State) →
-    UniqueWhere its.push_three.Kinds.ps its.push_three.Kinds.r (λ κs a. Stands execution s (now (a .0)) (a .1 .0)) its.push_three.Reads.Post
+    UniqueWhere its.push_three.Kinds.ps its.push_three.Kinds.r
+    (λ κs a. Stands execution s (now (a .0)) (a .1 .0)) its.push_three.Reads.Post
 push-three s κs a h x y p q j = let e = goes (p s h) (q s h) j in (tt, (tt, (tt, (e .image, (e .list, (tt, (tt, (tt, tt))))))))
 
 pub enter : (s : State) → UniqueWhere its.enter.Kinds.ps its.enter.Kinds.r

@@ -18,5 +18,5 @@ returns c = ap (worded placed) (c .before .before .before .before .before .befor
 pub wankitare-run-spec : {M : Type 1} → statement M
 wankitare-run-spec =
     tie.close
-    (tie.spec (λ c κs. search needs) (λ c. search needs) (λ c. search needs) (λ c. search needs) (λ c. search needs) (λ c. search needs)
-    returns)
+    (tie.spec (λ c κs. search needs) (λ c. search needs) (λ c. search needs) (λ c. search needs) (λ c. search needs)
+    (λ c. search needs) returns)

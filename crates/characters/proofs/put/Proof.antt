@@ -43,5 +43,5 @@ returns c =
 pub put-spec : {M : Type 1} → statement M
 put-spec =
     tie.close
-    (tie.spec Inv-loop μ-loop loop-holds (λ c. search needs) (λ c. omega arith) slice-write-text (λ c. search needs) (λ c. search needs)
-    loop-again same-length returns)
+    (tie.spec Inv-loop μ-loop loop-holds (λ c. search needs) (λ c. omega arith) slice-write-text (λ c. search needs)
+    (λ c. search needs) loop-again same-length returns)

@@ -6,5 +6,5 @@ use Rattle.decode.proofs.changing.Statement.{statement}
 use Rattle.decode.proofs.changing.Tie as tie
 
 pub changing-spec : {M : Type 1} → statement M
-changing-spec = tie.close (tie.spec (λ c. search needs) (λ c. search needs) (λ c. search needs) (λ c. search needs) (λ c. search needs)
-    (λ c. last changings _ Inc (c .match .rest)))
+changing-spec = tie.close (tie.spec (λ c. search needs) (λ c. search needs) (λ c. search needs) (λ c. search needs)
+    (λ c. search needs) (λ c. last changings _ Inc (c .match .rest)))

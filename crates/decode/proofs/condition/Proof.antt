@@ -8,5 +8,5 @@ use Rattle.decode.proofs.condition.Tie as tie
 pub condition-spec : {M : Type 1} → statement M
 condition-spec =
     tie.close
-    (tie.spec (λ c. search needs) (λ c. search needs) (λ c. search needs) (λ c. search needs) (λ c. search needs) (λ c. search needs)
-    (λ c. search needs) (λ c. last conditions _ Beq (c .match .rest)))
+    (tie.spec (λ c. search needs) (λ c. search needs) (λ c. search needs) (λ c. search needs) (λ c. search needs)
+    (λ c. search needs) (λ c. search needs) (λ c. last conditions _ Beq (c .match .rest)))

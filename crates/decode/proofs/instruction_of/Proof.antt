@@ -31,5 +31,5 @@ returns-6 c = search (le-ltb, c .single .ensures)
 pub instruction-of-spec : {M : Type 1} → statement M
 instruction-of-spec =
     tie.close
-    (tie.spec (λ c κs. search needs) (λ c κs. search needs) returns (λ c κs. search needs) returns-2 (λ c κs. search needs) returns-3
-    (λ c κs. search needs) returns-4 (λ c κs. search needs) returns-5 (λ c κs. search needs) returns-6)
+    (tie.spec (λ c κs. search needs) (λ c κs. search needs) returns (λ c κs. search needs) returns-2 (λ c κs. search needs)
+    returns-3 (λ c κs. search needs) returns-4 (λ c κs. search needs) returns-5 (λ c κs. search needs) returns-6)

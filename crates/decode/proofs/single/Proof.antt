@@ -8,9 +8,6 @@ use Rattle.decode.proofs.single.Tie as tie
 pub single-spec : {M : Type 1} → statement M
 single-spec =
     tie.close
-    (tie.spec
-    (λ c. rw (c .match .keys1))
-    (λ c. rw (c .match .keys2))
-    (λ c. rw (c .match .keys3))
-    (λ c. search needs) (λ c. search needs) (λ c. search needs)
+    (tie.spec (λ c. rw (c .match .keys1)) (λ c. rw (c .match .keys2)) (λ c. rw (c .match .keys3)) (λ c. search needs)
+    (λ c. search needs) (λ c. search needs)
     (λ c. last (singles (c .before .args .low) (c .before .args .high)) _ Undefined (c .match .rest)))

@@ -33,5 +33,5 @@ loop-again c = search needs
 pub fill-spec : {M : Type 1} → statement M
 fill-spec =
     tie.close
-    (tie.spec Inv-loop μ-loop loop-holds (λ c. search needs) (λ c. search needs) (λ c. search needs) (λ c κs. search needs) same-length
-    returns add-done loop-less loop-again (λ c. search needs) (λ c. search needs))
+    (tie.spec Inv-loop μ-loop loop-holds (λ c. search needs) (λ c. search needs) (λ c. search needs) (λ c κs. search needs)
+    same-length returns add-done loop-less loop-again (λ c. search needs) (λ c. search needs))

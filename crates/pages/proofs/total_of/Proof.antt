@@ -77,5 +77,6 @@ returns-2 c =
 pub total-of-spec : {M : Type 1} → statement M
 total-of-spec =
     tie.close
-    (tie.spec Inv-loop μ-loop loop-holds (λ c. omega arith) (λ c. omega arith) (λ c. omega arith) (λ c. omega arith) add-high add-high-2
-    add-low add-low-2 (λ c. search needs) (λ c. search needs) loop-again add-top (λ c. omega arith) (λ c. omega arith) returns returns-2)
+    (tie.spec Inv-loop μ-loop loop-holds (λ c. omega arith) (λ c. omega arith) (λ c. omega arith) (λ c. omega arith) add-high
+    add-high-2 add-low add-low-2 (λ c. search needs) (λ c. search needs) loop-again add-top (λ c. omega arith) (λ c. omega arith)
+    returns returns-2)

@@ -43,5 +43,5 @@ pub jsr-spec : {M : Type 1} → statement M
 jsr-spec =
     tie.close
     (tie.spec (λ c. search needs) (λ c κs. search needs) (λ c κs. search needs) (λ c κs. search needs) (λ c κs. search needs)
-    (λ c κs. search needs) (λ c κs. search needs) (λ c κs. search needs) (λ c κs. search needs) set-pc-requires (λ c. search needs)
-    (λ c. search needs) (λ c. search needs) returns)
+    (λ c κs. search needs) (λ c κs. search needs) (λ c κs. search needs) (λ c κs. search needs) set-pc-requires
+    (λ c. search needs) (λ c. search needs) (λ c. search needs) returns)

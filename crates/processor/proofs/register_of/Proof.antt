@@ -18,5 +18,5 @@ returns-3 c = λ s e. rw (c .before .enum-told3 .given .1, e)
 pub register-of-spec : {M : Type 1} → statement M
 register-of-spec =
     tie.close
-    (tie.spec (λ c. search needs) (λ c. search needs) (λ c. search needs) (λ c. search needs) (λ c. search needs) (λ c. search needs)
-    returns returns-2 returns-3)
+    (tie.spec (λ c. search needs) (λ c. search needs) (λ c. search needs) (λ c. search needs) (λ c. search needs)
+    (λ c. search needs) returns returns-2 returns-3)

@@ -56,5 +56,6 @@ returns c =
 pub put-pages-spec : {M : Type 1} → statement M
 put-pages-spec =
     tie.close
-    (tie.spec Inv-loop μ-loop loop-holds (λ c. omega arith) (λ c. omega arith) (λ c. omega arith) (λ c. omega arith) (λ c. omega arith)
-    put-traffic-requires (λ c. search needs) (λ c. search needs) loop-again (λ c. c .before .loop .inv .size) returns)
+    (tie.spec Inv-loop μ-loop loop-holds (λ c. omega arith) (λ c. omega arith) (λ c. omega arith) (λ c. omega arith)
+    (λ c. omega arith) put-traffic-requires (λ c. search needs) (λ c. search needs) loop-again (λ c. c .before .loop .inv .size)
+    returns)

@@ -7,5 +7,5 @@ returns : tie.Need-returns
 returns c = refl
 
 pub set-pc-spec : {M : Type 1} → statement M
-set-pc-spec = tie.close (tie.spec (λ c. search needs) (λ c. search needs) (λ c. search needs) (λ c. search needs)
-    (λ c. search needs) returns)
+set-pc-spec = tie.close (tie.spec (λ c. search needs) (λ c. search needs) (λ c. search needs) (λ c. search needs) (λ c. search needs)
+    returns)

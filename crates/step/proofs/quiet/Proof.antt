@@ -48,5 +48,5 @@ returns-2 c =
 pub quiet-spec : {M : Type 1} → statement M
 quiet-spec =
     tie.close
-    (tie.spec (λ c κs. search needs) returns execute-requires answer-requires (λ c. search needs) (λ c. search needs) (λ c. search needs)
-    returns-2)
+    (tie.spec (λ c κs. search needs) returns execute-requires answer-requires (λ c. search needs) (λ c. search needs)
+    (λ c. search needs) returns-2)

@@ -48,5 +48,5 @@ returns c =
 pub put-accesses-spec : {M : Type 1} → statement M
 put-accesses-spec =
     tie.close
-    (tie.spec Inv-loop μ-loop loop-holds (λ c. search needs) (λ c κs. search needs) (λ c. search needs) put-requires (λ c. search needs)
-    (λ c. search needs) loop-again same-length returns)
+    (tie.spec Inv-loop μ-loop loop-holds (λ c. search needs) (λ c κs. search needs) (λ c. search needs) put-requires
+    (λ c. search needs) (λ c. search needs) loop-again same-length returns)

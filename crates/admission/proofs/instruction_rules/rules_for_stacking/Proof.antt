@@ -6,8 +6,8 @@ pub rules-for-stacking-spec : {M : Type 1} → statement M
 rules-for-stacking-spec =
     tie.close
     (tie.spec (λ c. search needs) (λ c κs. search needs) (λ c κs. search needs) (λ c. search needs) (λ c. search needs)
-    (λ c κs. search needs) (λ c κs. search needs) (λ c. search needs) (λ c κs. search needs) (λ c. search needs) (λ c κs. search needs)
-    (λ c. search needs) (λ c κs. search needs)
+    (λ c κs. search needs) (λ c κs. search needs) (λ c. search needs) (λ c κs. search needs) (λ c. search needs)
+    (λ c κs. search needs) (λ c. search needs) (λ c κs. search needs)
     (λ c. λ second. rw (c .before .before .enum-told .given .1, c .one .ensures, c .before .goes-up .ensures))
     (λ c. λ second. rw (c .enum-told2 .given .1))
     (λ c. λ second. rw (c .before .before .enum-told3 .given .1, c .one2 .ensures, c .before .goes-up2 .ensures))

@@ -15,5 +15,5 @@ returns-2 c = (rw (le-ltb _ _ (c .if1 .left)), search needs)
 pub low-difference-spec : {M : Type 1} → statement M
 low-difference-spec =
     tie.close
-    (tie.spec (λ c. search needs) (λ c. search needs) (λ c. search needs) (λ c. search needs) (λ c. search needs) (λ c. search needs)
-    returns returns-2)
+    (tie.spec (λ c. search needs) (λ c. search needs) (λ c. search needs) (λ c. search needs) (λ c. search needs)
+    (λ c. search needs) returns returns-2)

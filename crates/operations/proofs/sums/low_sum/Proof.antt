@@ -15,5 +15,5 @@ returns-2 c = (rw (lt-leb _ _ (c .if1 .left)), search needs)
 pub low-sum-spec : {M : Type 1} → statement M
 low-sum-spec =
     tie.close
-    (tie.spec (λ c. search needs) (λ c. search needs) (λ c. search needs) (λ c. search needs) (λ c. search needs) (λ c. search needs)
-    returns returns-2)
+    (tie.spec (λ c. search needs) (λ c. search needs) (λ c. search needs) (λ c. search needs) (λ c. search needs)
+    (λ c. search needs) returns returns-2)
