@@ -22,7 +22,7 @@ ghost use Rattle.rules.specs.Bus.{world, images, look};
 ghost use Rattle.rules.specs.Record.{recordOf};
 ghost use Rattle.rules.specs.Addressing.{bankOf};
 ghost use Rattle.rules.specs.Arithmetic.{changed};
-ghost use Rattle.rules.specs.Operations.{withP, withS, withResult, registerOf, taken, jsr, brk, jumpIndirect, perform};
+ghost use Rattle.rules.specs.Operations.{withP, withS, withResult, registerOf, taken, jsr, jumpIndirect, perform};
 ghost use Rattle.rules.specs.Flags.{flagsOf, withI};
 ghost use Rattle.state.specs.Makes.{Makes};
 ghost use Rattle.wiring.specs.Wiring.{Wired, Stands, Ready};
@@ -251,20 +251,6 @@ fn jsr(low: u8, pc: u16, state: &mut [u8], w: Wiring, image: &mut [u8], list: &m
     state::set_pc(state, bytes::join(low, high));
 }
 
-// "BRK: PC+1, push PC+2 high, low, P with bit 4 set, FFFE, FFFF; I set."
-fn brk(pc: u16, state: &mut [u8], w: Wiring, image: &mut [u8], list: &mut [u8])
-    requires { ⌜ Ready w (length (now state)) (length (now image)) (length (now list)) ⌝ }
-    ensures { λ r. ⌜ ((s : State) → Stands execution s (now (state .entry)) w → pc ≡ s .cpu .pc →
-        Does (brk (past 1 (s .cpu))) 2 s (now (image .entry)) (now (list .entry)) 7 (now (state .exit)) (now (image .exit))
-        (now (list .exit))) ⌝ }
-{
-    let back = std::num::wrapping_add_u16(pc, 2);
-    let s = state[state::S];
-    let p = flags::with_bit_4(state::flags_of(state));
-    sequence::push_three(state, w, image, list, back, s, p);
-    sequence::enter(65534, state, w, image, list);
-}
-
 // "JMP (a): two operands, pointer, and the next location"
 fn jump_indirect(a: u16, state: &mut [u8], w: Wiring, image: &[u8], list: &mut [u8])
     requires { ⌜ Ready w (length (now state)) (length (now image)) (length (now list)) ⌝ }
@@ -353,7 +339,8 @@ fn perform(
             6
         }
         Instruction::Brk => {
-            brk(pc, state, w, image, list);
+            let next = std::num::wrapping_add_u16(pc, 1);
+            sequence::brk(next, state, w, image, list);
             7
         }
         Instruction::Txs => {

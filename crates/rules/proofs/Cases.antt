@@ -101,9 +101,9 @@ steps =
     ∷ results (runs (state 2 7 0 0xFF 0x20 0x80FE) (zeros 1 from 0x80FE holds (0xD0 ∷ 0x00 ∷ []))) 3 7 0xFF 0x20
     ∷ results (runs (state 2 7 0 0xFE 0x20 0x8000) (zeros 1 from 0x8000 holds (0x68 ∷ []) from 0x01FF holds (0x80 ∷ []))) 4 0x80
     0xFF 0xA0
-    -- 39 the cycle count is 511 and then 513, "low byte first"
-    ∷ same (drop 12 (runs (set (set (state 2 0 0 0 0x20 0x8000) 12 0xFF) 13 0x01) (zeros 1 from 0x8000 holds (0xEA ∷ [])) .state))
-    (0x01 ∷ 0x02 ∷ 0 ∷ 0 ∷ [])
+    -- 39 the cycle count is 010304FF and then 01030501, "low byte first"
+    ∷ same (drop 12 (runs (take 12 (state 2 0 0 0 0x20 0x8000) ++ 0xFF ∷ 4 ∷ 3 ∷ 1 ∷ []) (zeros 1 from 0x8000 holds (0xEA ∷ [])) .state))
+    (1 ∷ 5 ∷ 3 ∷ 1 ∷ [])
     -- 40 sums past FFFF wrap: NOP at FFFF; LDA FFFF,X, X = 1; BNE at FFFD to 0000, and at 0000 to FFFF; JMP (FFFF)
     ∷ (let o = runs (state 2 0 0 0 0x20 0xFFFF) (zeros 1 from 0xFFFF holds (0xEA ∷ [])) in reads o 1 0x0000 0 0 && pcIs o 0x00 0x00)
     ∷ (let o = on 0 1 0 0x20 (0xBD ∷ 0xFF ∷ 0xFF ∷ []) in reads o 3 0xFF00 0 0 && reads o 4 0x0000 0 0)
@@ -124,6 +124,12 @@ steps =
     let m = zeros 4 from 0x28000 holds (0xE6 ∷ 0x00 ∷ []) from 0x38002 holds (0xEA ∷ []) in
     same (take 8 (drop 40 (runOf charts r m (replicate 4 0) (replicate 112 0) .accesses)))
     (0x02 ∷ 0x80 ∷ 3 ∷ 0xEA ∷ 0 ∷ 0 ∷ 0 ∷ 0 ∷ []))
+    -- 50 L is of low digits, whatever the high ones: decimal 12 + 11, C = 0: 23; 32 - 11, C = 1: 21
+    ∷ results (on 0x12 0 0 0x28 (0x69 ∷ 0x11 ∷ [])) 2 0x23 0 0x28
+    ∷ results (on 0x32 0 0 0x29 (0xE9 ∷ 0x11 ∷ [])) 2 0x21 0 0x29
+    -- 52 JSR at 8100 pushes 81, 02
+    ∷ (let o = runs (state 2 7 0 0xFF 0x20 0x8100) (zeros 1 from 0x8100 holds (0x20 ∷ [])) in
+    writes o 3 0x01FF 0 0x81 && writes o 4 0x01FE 0 0x02)
     ∷ []
 
 computed-steps : failing 1 steps ≡ []
@@ -160,11 +166,13 @@ refusals =
     -- 18 restart: 8 under 16 bytes; 2 for the last whole record; its place and the tail; 8 where an append would pass 65,536 bytes
     ∷ eqb (restartWord (restart (replicate 15 2))) 8
     ∷ eqb (restartWord (restart (replicate 16 2))) 2
-    ∷ eqb (restartWord (restart (replicate 16 2 ++ state 2 0 0 0 0x20 0x8000 ++ replicate 5 2))) (256 * 5 + 65536 * 16)
+    ∷ eqb (restartWord (restart (replicate 32 2 ++ state 2 0 0 0 0x20 0x8000 ++ replicate 5 2))) (256 * 5 + 65536 * 32)
     ∷ same (appendWord (appendAt 21) ∷ appendWord (appendAt 65535) ∷ appendWord (appendAt 65536) ∷ []) (65536 * 16 ∷ 65536 * 65520 ∷ 8 ∷ [])
     -- 22 "no byte moves"
     ∷ (let o = step charts (state 2 7 0 0 0x20 0x8000) (zeros 1) 8 0 (replicate 56 9) in
     same (o .state) (state 2 7 0 0 0x20 0x8000) && same (o .accesses) (replicate 56 9))
+    -- 23 an image of a bank and a half
+    ∷ eqb (stepWord (runs (state 9 0 0 0 0x20 0x8000) (record { size = 98304; byteAt = λ i. 0 }) .answer)) 3
     ∷ []
 
 computed-refusals : failing 1 refusals ≡ []

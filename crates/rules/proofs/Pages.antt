@@ -50,9 +50,9 @@ counts =
     ∷ eqb (at (countingOf (set reading 1 0xFF) .reads) 0xFF) 1
     -- 7 lists "fed one after another" add up
     ∷ (let k = countingOf (reading ++ writing) in leaves (fed (k .reads) (k .writes) writing) 0 1 2 0 0)
-    -- 8 "a list whose length is no multiple of 8 gives 20": 1, 7, 9 bytes
+    -- 8 "a list whose length is no multiple of 8 gives 20": 1, 4, 9 bytes
     ∷ answers (0 ∷ []) 20
-    ∷ answers (take 7 reading) 20
+    ∷ answers (take 4 reading) 20
     ∷ answers (reading ++ 0 ∷ []) 20
     -- 11 "byte 4 above 1 or bytes 5 to 7 not zero gives 21", at any record; other bytes are free
     ∷ answers (set reading 4 2) 21

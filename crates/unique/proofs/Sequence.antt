@@ -1,4 +1,4 @@
--- The same of what BRK and the interrupts have in common.
+-- The same of BRK, and of what the interrupts have in common with it.
 use denote.Ref.{now}
 use Rattle.rules.specs.declared.State.{State}
 use Rattle.rules.specs.Cycles.{execution}
@@ -15,3 +15,7 @@ push-three s κs a h x y p q j = let e = goes (p s h) (q s h) j in (tt, (tt, (tt
 pub enter : (s : State) → UniqueWhere its.enter.Kinds.ps its.enter.Kinds.r
     (λ κs a. Stands execution s (now (a .1 .0)) (a .1 .1 .0)) its.enter.Reads.Post
 enter s κs a h x y p q j = let e = does (p s h) (q s h) j in (tt, (tt, (e .state, (tt, (tt, (e .accesses, tt))))))
+
+pub brk : (s : State) → UniqueWhere its.brk.Kinds.ps its.brk.Kinds.r
+    (λ κs a. Stands execution s (now (a .1 .0)) (a .1 .1 .0)) its.brk.Reads.Post
+brk s κs a h x y p q j = let e = does (p s h) (q s h) j in (tt, (tt, (e .state, (tt, (e .image, (e .accesses, tt))))))

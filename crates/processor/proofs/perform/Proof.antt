@@ -113,8 +113,13 @@ returns-9 : tie.Need-returns-9
 unfolding perform rest
 returns-9 c =
     let at-brk = c .before .before .before .before .before .before in
-    let at-enum-told = at-brk .before .before .before .before in
-    (omega arith, λ s h. rw (at-enum-told .enum-told .given .1) (at-brk .brk .ensures s (h .stands) (h .here)))
+    let at-wrapping-add-u16 = at-brk .before .before .before .before in
+    let at-enum-told = at-wrapping-add-u16 .before in (
+      omega arith,
+      λ s h.
+          let next = rw (h .here) at (at-wrapping-add-u16 .wrapping-add-u16 .ensures) in
+          rw (at-enum-told .enum-told .given .1) (rw next at (at-brk .brk .ensures s (h .stands))),
+    )
 
 returns-10 : tie.Need-returns-10
 unfolding perform rest
@@ -161,10 +166,10 @@ perform-spec =
     tie.close
     (tie.spec (λ c. search needs) (λ c κs. search needs) (λ c. search needs) (λ c. search needs) (λ c. search needs)
     (λ c κs. search needs) (λ c κs. search needs) (λ c. search needs) (λ c κs. search needs) (λ c κs. search needs)
-    (λ c. search needs) (λ c κs. search needs) (λ c κs. search needs) (λ c. search needs) (λ c κs. search needs)
-    (λ c. search needs) (λ c κs. search needs) (λ c κs. search needs) (λ c κs. search needs) (λ c. search needs)
+    (λ c. search needs) (λ c κs. search needs) (λ c κs. search needs) (λ c. search needs) (λ c κs. search needs) (λ c. search needs)
     (λ c κs. search needs) (λ c κs. search needs) (λ c κs. search needs) (λ c. search needs) (λ c κs. search needs)
-    (λ c. search needs) (λ c κs. search needs) (λ c. search needs) (λ c κs. search needs) (λ c κs. search needs)
+    (λ c κs. search needs) (λ c κs. search needs) (λ c. search needs) (λ c κs. search needs) (λ c. search needs)
+    (λ c κs. search needs) (λ c κs. search needs) (λ c. search needs) (λ c κs. search needs) (λ c κs. search needs)
     (λ c. search needs) (λ c κs. search needs) (λ c κs. search needs) (λ c. search needs) lay-requires (λ c. search needs)
     (λ c. search needs) (λ c. search needs) returns (λ c. search needs) returns-2 (λ c. search needs) returns-3 (λ c. search needs)
     (λ c. search needs) (λ c. search needs) returns-4 (λ c. search needs) (λ c. search needs) (λ c. search needs) returns-5

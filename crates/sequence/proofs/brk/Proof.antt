@@ -1,12 +1,11 @@
 use mathlib.Core.Path.{_∙_}
-use Rattle.processor.proofs.Fetches.{twice}
 use Rattle.rules.specs.Operations.{brk, enter}
 use Rattle.rules.specs.Cycles.{_>>=_}
 use Rattle.laws.proofs.Goes.{do-does}
 use Rattle.state.proofs.Registers.{holds}
 use borrow.Author.Needs.{needs}
-use Rattle.processor.proofs.brk.Statement.{statement}
-use Rattle.processor.proofs.brk.Tie as tie
+use Rattle.sequence.proofs.brk.Statement.{statement}
+use Rattle.sequence.proofs.brk.Tie as tie
 
 returns : tie.Need-returns
 unfolding brk enter _>>=_
@@ -17,12 +16,12 @@ returns c =
     let at-with-bit-4 = at-push-three .before .before .before .before in
     let at-flags-of = at-with-bit-4 .before in
     let at-wrapping-add-u16 = at-flags-of .before .before .before in
-    λ s h q.
+    λ s h.
+    let back = at-wrapping-add-u16 .wrapping-add-u16 .ensures in
     let sp = holds s (h .bytes) .s in
-    let back = rw q at (at-wrapping-add-u16 .wrapping-add-u16 .ensures) in
     let p = rw (at-flags-of .flags-of .ensures ∙ holds s (h .bytes) .p) at (at-with-bit-4 .with-bit-4 .ensures) in
     let pushed = rw (back, sp, p) at (at-push-three .push-three .ensures s h) in
-    rw (twice (s .cpu .pc)) (do-does _ pushed (at-enter .enter .ensures s h))
+    do-does _ pushed (at-enter .enter .ensures s h)
 
 pub brk-spec : {M : Type 1} → statement M
 brk-spec =
