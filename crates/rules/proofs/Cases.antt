@@ -2,7 +2,7 @@
 use Prim.Native.Nat.{ℕ, _+_, _*_}
 use mathlib.Core.Path.{_≡_, refl}
 use mathlib.Core.Bool.{Bool, _&&_}
-use mathlib.Core.List.{List, [], _∷_, _++_}
+use mathlib.Core.List.{List, [], _∷_, _++_, map}
 use lib.Dec.{eqb}
 use lib.ListN.{take, drop, set, replicate}
 use Rattle.rules.specs.declared.StepAnswer.{StepAnswer}
@@ -19,6 +19,10 @@ use Rattle.rules.proofs.Examples.{keeps}
 -- PC after a step
 abbrev pcIs : Outcome StepAnswer Chart → ℕ → ℕ → Bool
 pcIs o low high = same (take 2 (drop 6 (o .state))) (low ∷ high ∷ [])
+
+-- X and Y after a step
+abbrev xyAre : Outcome StepAnswer Chart → ℕ → ℕ → Bool
+xyAre o x y = same (take 2 (drop 2 (o .state))) (x ∷ y ∷ [])
 
 abbrev steps : List Bool
 steps =
@@ -124,12 +128,37 @@ steps =
     let m = zeros 4 from 0x28000 holds (0xE6 ∷ 0x00 ∷ []) from 0x38002 holds (0xEA ∷ []) in
     same (take 8 (drop 40 (runOf charts r m (replicate 4 0) (replicate 112 0) .accesses)))
     (0x02 ∷ 0x80 ∷ 3 ∷ 0xEA ∷ 0 ∷ 0 ∷ 0 ∷ 0 ∷ []))
-    -- 50 L is of low digits, whatever the high ones: decimal 12 + 11, C = 0: 23; 32 - 11, C = 1: 21
+    -- 50 decimal, C = 0: 12 + 11: 23, low digits alone make L; 05 + 05: 10, L is 10; 40 + 40: 80, N, V; 50 + 50: 00, T is 160, C, N, V
     ∷ results (on 0x12 0 0 0x28 (0x69 ∷ 0x11 ∷ [])) 2 0x23 0 0x28
-    ∷ results (on 0x32 0 0 0x29 (0xE9 ∷ 0x11 ∷ [])) 2 0x21 0 0x29
-    -- 52 JSR at 8100 pushes 81, 02
+    ∷ results (on 0x05 0 0 0x28 (0x69 ∷ 0x05 ∷ [])) 2 0x10 0 0x28
+    ∷ results (on 0x40 0 0 0x28 (0x69 ∷ 0x40 ∷ [])) 2 0x80 0 0xE8
+    ∷ results (on 0x50 0 0 0x28 (0x69 ∷ 0x50 ∷ [])) 2 0x00 0 0xE9
+    -- 54 decimal 11 - 11, C = 1: 00, Z, C, neither L nor T is negative; binary 80 + 00, C = 0: 80, N, no V, since -128 is a signed byte
+    ∷ results (on 0x11 0 0 0x29 (0xE9 ∷ 0x11 ∷ [])) 2 0x00 0 0x2B
+    ∷ results (on 0x80 0 0 0x20 (0x69 ∷ 0x00 ∷ [])) 2 0x80 0 0xA0
+    -- 56 LSR A of 82; ROR A of 04 with C; BIT of 80; DEC of 01 writes it back, then 00
+    ∷ results (on 0x82 0 0 0x20 (0x4A ∷ [])) 2 0x41 0 0x20
+    ∷ results (on 0x04 0 0 0x21 (0x6A ∷ [])) 2 0x82 0 0xA0
+    ∷ results (runs (state 2 0x80 0 0 0x20 0x8000) (zeros 1 from 0x8000 holds (0x24 ∷ 0x10 ∷ []) from 0x10 holds (0x80 ∷ []))) 3
+    0x80 0 0xA0
+    ∷ (let o = runs (state 2 7 0 0 0x20 0x8000) (zeros 1 from 0x8000 holds (0xC6 ∷ 0x10 ∷ []) from 0x10 holds (0x01 ∷ [])) in
+    results o 5 7 0 0x22 && writes o 3 0x0010 0 0x01 && writes o 4 0x0010 0 0x00)
+    -- 60 INX of 7F, DEX of 00, INY and DEY of 00
+    ∷ xyAre (on 7 0x7F 0 0x20 (0xE8 ∷ [])) 0x80 0x00
+    ∷ xyAre (on 7 0x00 0 0x20 (0xCA ∷ [])) 0xFF 0x00
+    ∷ xyAre (on 7 0x00 0 0x20 (0xC8 ∷ [])) 0x00 0x01
+    ∷ xyAre (on 7 0x00 0 0x20 (0x88 ∷ [])) 0x00 0xFF
+    -- 64 JSR at 8100 pushes 81, 02; PHA with S = 0 leaves FF; BNE at 8000 to 7FFF reads the next instruction's page, at 80FF
     ∷ (let o = runs (state 2 7 0 0xFF 0x20 0x8100) (zeros 1 from 0x8100 holds (0x20 ∷ [])) in
     writes o 3 0x01FF 0 0x81 && writes o 4 0x01FE 0 0x02)
+    ∷ results (on 7 0 0x00 0x20 (0x48 ∷ [])) 3 7 0xFF 0x20
+    ∷ reads (on 7 0 0 0x20 (0xD0 ∷ 0xFD ∷ [])) 3 0x80FF 0 0
+    -- 67 6508: "Addresses 0100 to 01FF reach image bytes 0 to 255": PHA at 0110; direction 0F, output 00, pins FF: reads F0
+    ∷ keeps (runs (state 8 7 0 0x10 0x20 0x8000) (zeros 1 from 0x8000 holds (0x48 ∷ []))) 0x0010 7
+    ∷ results (tried (registers 0x0F 0x00 (state 8 7 0 0xFF 0x20 0x8000)) (zeros 1 from 0x8000 holds (0xA5 ∷ 0x01 ∷ [])) 0 0xFF) 3
+    0xF0 0xFF 0xA0
+    -- 69 6509: "k = 1, 2, 4, 8 or 16"
+    ∷ same (map (λ k. stepWord (runs (state 9 0 0 0 0x20 0x8000) (zeros k) .answer)) (1 ∷ 2 ∷ 4 ∷ 8 ∷ 16 ∷ [])) (replicate 5 (256 * 7))
     ∷ []
 
 computed-steps : failing 1 steps ≡ []
@@ -173,6 +202,8 @@ refusals =
     same (o .state) (state 2 7 0 0 0x20 0x8000) && same (o .accesses) (replicate 56 9))
     -- 23 an image of a bank and a half
     ∷ eqb (stepWord (runs (state 9 0 0 0 0x20 0x8000) (record { size = 98304; byteAt = λ i. 0 }) .answer)) 3
+    -- 24 a run with an empty script is played to its end
+    ∷ eqb (runWords (runOf charts (state 2 0 0 0 0x20 0x8000) (zeros 1) [] [] .answer) .word) 0
     ∷ []
 
 computed-refusals : failing 1 refusals ≡ []

@@ -2,10 +2,10 @@
 use Prim.Native.Nat.{ℕ, _+_, _-_, _^_}
 use Prim.Native.String.{String}
 use mathlib.Core.Path.{_≡_, refl}
-use mathlib.Core.Bool.{Bool}
+use mathlib.Core.Bool.{Bool, _&&_}
 use mathlib.Core.List.{List, [], _∷_, _++_}
 use lib.Dec.{eqb}
-use lib.ListN.{take, set}
+use lib.ListN.{length, take, set}
 use Rattle.rules.specs.declared.Refusal.the-variants.{Total}
 use Rattle.rules.specs.declared.CountAnswer.the-variants.{Counted, Uncounted}
 use Rattle.rules.specs.declared.Counting.{Counting}
@@ -40,8 +40,8 @@ prints k s = same (reportOf k) (said s)
 
 counts : List Bool
 counts =
-    -- 1 nothing; a read; a write
-    leaves (countingOf []) 0 0 0 0 0
+    -- 1 nothing, of 256 pages; a read; a write
+    (leaves (countingOf []) 0 0 0 0 0 && eqb (length none) 256)
     ∷ leaves (countingOf reading) 0 1 0 0 0
     ∷ leaves (countingOf writing) 0 0 1 0 0
     -- 4 "On the 6509 banks are ignored"; the page is the address's high byte, FF the last
@@ -74,8 +74,9 @@ counts =
     ∷ prints (countingOf (writing ++ set reading 1 0x0A ++ reading ++ reading)) "0A 1 0\n80 2 1\nT 4\n"
     ∷ prints (countingOf (take 7 reading)) "E 20\n"
     ∷ prints (counting Counted (lent (2 ^ 64 - 1)) none) "80 18446744073709551615 0\nT 18446744073709551615\n"
-    ∷ prints (counting Counted none (lent 90)) "80 0 90\nT 90\n"
+    ∷ prints (counting Counted none (lent 10)) "80 0 10\nT 10\n"
     ∷ prints (counting (Uncounted Total) none none) "E 22\n"
+    ∷ prints (counting Counted (lent (2 ^ 64 - 1)) (lent 1)) "E 22\n"
     ∷ []
 
 computed-counts : failing 1 counts ≡ []
