@@ -3,7 +3,7 @@ use Prim.Native.Nat.{ℕ, _+_, _*_}
 use mathlib.Core.Path.{_≡_, refl}
 use mathlib.Core.Bool.{Bool}
 use mathlib.Core.List.{List, [], _∷_, _++_}
-use lib.ListN.{set}
+use lib.ListN.{set, replicate}
 use Rattle.rules.specs.Bus.{Chart, charts}
 use Rattle.rules.specs.Answers.{verdictWord}
 use Rattle.rules.proofs.Opened.{opened}
@@ -80,7 +80,7 @@ maps =
     ∷ same (judged (firmware 1) 1 [] ∷ judged (firmware 1) 1 (0 ∷ marks) ∷ []) (10 ∷ 10 ∷ [])
     -- 5 11: kind, zeros, ascending
     ∷ same (marking 2 2 0 ∷ marking 2 2 4 ∷ []) (number 11 2 ∷ number 11 2 ∷ [])
-    ∷ same (marking 2 7 1 ∷ marking 2 0 0x02 ∷ []) (number 11 2 ∷ number 11 2 ∷ [])
+    ∷ same (marking 2 5 1 ∷ marking 2 6 1 ∷ marking 2 7 1 ∷ marking 2 0 0x02 ∷ []) (replicate 4 (number 11 2))
     -- 7 12: the vectors' kinds and heights
     ∷ same (marking 0 2 2 ∷ marking 0 3 1 ∷ marking 12 2 1 ∷ marking 12 3 1 ∷ []) (12 ∷ 12 ∷ 12 ∷ 12 ∷ [])
     -- 8 13: undefined, BRK, PLP; JMP (a), 81, 91

@@ -55,9 +55,9 @@ steps =
     -- 12 6509: "a write is listed whole, its high bits dropped"; "Register writes leave the image byte beneath unchanged"
     ∷ (let o = runs (registers 2 0 (state 9 0xF7 0 0xFF 0x20 0x8000)) (zeros 1 from 0x8000 holds (0x85 ∷ 0x01 ∷ [])) in
     writes o 2 0x0001 2 0xF7 && eqb (at (o .state) 9) 7 && keeps o 1 0)
-    -- 13 IRQ: FFFE, P with bit 4 clear, I set; with I set the instruction
-    ∷ (let o = tried (state 2 7 0 0xFF 0x20 0x8000) (zeros 1 from 0x8000 holds (0xEA ∷ [])) 4 0 in
-    results o 7 7 0xFC 0x24 && writes o 4 0x01FD 0 0x20 && reads o 5 0xFFFE 0 0)
+    -- 13 IRQ: FFFE, FFFF, P with bit 4 clear, I set; with I set the instruction
+    ∷ (let o = tried (state 2 7 0 0xFF 0x20 0x8000) (zeros 1 from 0x8000 holds (0xEA ∷ []) from 0xFFFE holds (0x34 ∷ 0x12 ∷ [])) 4 0 in
+    results o 7 7 0xFC 0x24 && writes o 4 0x01FD 0 0x20 && reads o 5 0xFFFE 0 0x34 && reads o 6 0xFFFF 0 0x12 && pcIs o 0x34 0x12)
     ∷ results (tried (state 2 7 0 0xFF 0x24 0x8000) (zeros 1 from 0x8000 holds (0xEA ∷ [])) 4 0) 2 7 0xFF 0x24
     -- 15 NMI: an edge takes FFFA before an IRQ, and the level is stored; a level does not
     ∷ (let o = tried (state 2 7 0 0xFF 0x20 0x8000) (zeros 1 from 0x8000 holds (0xEA ∷ [])) 6 0 in
