@@ -22,7 +22,7 @@ ghost use Rattle.rules.specs.Bus.{world, images, look};
 ghost use Rattle.rules.specs.Record.{recordOf};
 ghost use Rattle.rules.specs.Addressing.{bankOf};
 ghost use Rattle.rules.specs.Arithmetic.{changed};
-ghost use Rattle.rules.specs.Operations.{withP, withS, withResult, registerOf, taken, jsr, jumpIndirect, perform};
+ghost use Rattle.rules.specs.Operations.{withP, withS, withResult, registerOf, taken, perform};
 ghost use Rattle.rules.specs.Flags.{flagsOf, withI};
 ghost use Rattle.state.specs.Makes.{Makes};
 ghost use Rattle.wiring.specs.Wiring.{Wired, Stands, Ready};
@@ -235,34 +235,6 @@ fn read_into(
     got.count
 }
 
-// "JSR: low, read at S, push PC+2 high, low, then high operand."
-fn jsr(low: u8, pc: u16, state: &mut [u8], w: Wiring, image: &mut [u8], list: &mut [u8])
-    requires { ⌜ Ready w (length (now state)) (length (now image)) (length (now list)) ⌝ }
-    ensures { λ r. ⌜ ((s : State) → Stands execution s (now (state .entry)) w → pc ≡ s .cpu .pc →
-        Does (jsr low (past 2 (s .cpu))) 2 s (now (image .entry)) (now (list .entry)) 6 (now (state .exit)) (now (image .exit))
-        (now (list .exit))) ⌝ }
-{
-    let s = state[state::S];
-    let two = std::num::wrapping_add_u16(pc, 2);
-    reads::read(state, w, image, list, 2, bytes::stack(s));
-    writes::push_pc(state, w, image, list, 3, two, s);
-    let high = reads::read(state, w, image, list, 5, two);
-    state::set_s(state, bytes::down(2, s));
-    state::set_pc(state, bytes::join(low, high));
-}
-
-// "JMP (a): two operands, pointer, and the next location"
-fn jump_indirect(a: u16, state: &mut [u8], w: Wiring, image: &[u8], list: &mut [u8])
-    requires { ⌜ Ready w (length (now state)) (length (now image)) (length (now list)) ⌝ }
-    ensures { λ r. ⌜ ((s : State) → Stands execution s (now (state .entry)) w →
-        Does (jumpIndirect a (s .cpu)) 3 s (now (image .entry)) (now (list .entry)) 5 (now (state .exit)) (now (image .entry))
-        (now (list .exit))) ⌝ }
-{
-    let next = std::num::wrapping_add_u16(a, 1);
-    let to = reads::word_at(state, w, image, list, 3, a, next);
-    state::set_pc(state, to);
-}
-
 // ASL, ROL, LSR, ROR of A.
 fn accumulated(o: Changing, state: &mut [u8])
     requires { ⌜ length (now state) ≡ 16 ⌝ }
@@ -331,11 +303,12 @@ fn perform(
         }
         Instruction::JumpIndirect(low, high) => {
             addressing::third(high, pc, state, w, list);
-            jump_indirect(bytes::join(low, high), state, w, image, list);
+            sequence::jump_indirect(bytes::join(low, high), state, w, image, list);
             5
         }
         Instruction::Jsr(low) => {
-            jsr(low, pc, state, w, image, list);
+            let two = std::num::wrapping_add_u16(pc, 2);
+            sequence::jsr(low, two, state, w, image, list);
             6
         }
         Instruction::Brk => {

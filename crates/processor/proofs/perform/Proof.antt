@@ -106,18 +106,23 @@ returns-8 : tie.Need-returns-8
 unfolding perform rest
 returns-8 c =
     let at-jsr = c .before .before .before .before .before .before in
-    let at-i10 = at-jsr .before .before .before .before .before in
-    (omega arith, λ s h. rw (at-i10 .i10 .given .1) (at-jsr .jsr .ensures s (h .stands) (h .here)))
+    let at-wrapping-add-u16 = at-jsr .before .before .before .before in
+    let at-i10 = at-wrapping-add-u16 .before .before in (
+      omega arith,
+      λ s h.
+          let two = rw (h .here) at (at-wrapping-add-u16 .wrapping-add-u16 .ensures) in
+          rw (at-i10 .i10 .given .1) (rw two at (at-jsr .jsr .ensures s (h .stands))),
+    )
 
 returns-9 : tie.Need-returns-9
 unfolding perform rest
 returns-9 c =
     let at-brk = c .before .before .before .before .before .before in
-    let at-wrapping-add-u16 = at-brk .before .before .before .before in
-    let at-enum-told = at-wrapping-add-u16 .before in (
+    let at-wrapping-add-u162 = at-brk .before .before .before .before in
+    let at-enum-told = at-wrapping-add-u162 .before in (
       omega arith,
       λ s h.
-          let next = rw (h .here) at (at-wrapping-add-u16 .wrapping-add-u16 .ensures) in
+          let next = rw (h .here) at (at-wrapping-add-u162 .wrapping-add-u162 .ensures) in
           rw (at-enum-told .enum-told .given .1) (rw next at (at-brk .brk .ensures s (h .stands))),
     )
 
@@ -168,12 +173,12 @@ perform-spec =
     (λ c κs. search needs) (λ c κs. search needs) (λ c. search needs) (λ c κs. search needs) (λ c κs. search needs)
     (λ c. search needs) (λ c κs. search needs) (λ c κs. search needs) (λ c. search needs) (λ c κs. search needs) (λ c. search needs)
     (λ c κs. search needs) (λ c κs. search needs) (λ c κs. search needs) (λ c. search needs) (λ c κs. search needs)
-    (λ c κs. search needs) (λ c κs. search needs) (λ c. search needs) (λ c κs. search needs) (λ c. search needs)
     (λ c κs. search needs) (λ c κs. search needs) (λ c. search needs) (λ c κs. search needs) (λ c κs. search needs)
-    (λ c. search needs) (λ c κs. search needs) (λ c κs. search needs) (λ c. search needs) lay-requires (λ c. search needs)
-    (λ c. search needs) (λ c. search needs) returns (λ c. search needs) returns-2 (λ c. search needs) returns-3 (λ c. search needs)
-    (λ c. search needs) (λ c. search needs) returns-4 (λ c. search needs) (λ c. search needs) (λ c. search needs) returns-5
-    (λ c. search needs) (λ c. search needs) returns-6 (λ c. search needs) (λ c. search needs) (λ c. search needs) returns-7
-    (λ c. search needs) (λ c. search needs) (λ c. search needs) returns-8 (λ c. search needs) (λ c. search needs)
-    (λ c. search needs) returns-9 (λ c. search needs) returns-10 (λ c. search needs) returns-11 returns-12 (λ c. search needs)
-    (λ c. search needs) (λ c. search needs) returns-13)
+    (λ c. search needs) (λ c κs. search needs) (λ c κs. search needs) (λ c. search needs) (λ c κs. search needs)
+    (λ c κs. search needs) (λ c. search needs) (λ c κs. search needs) (λ c κs. search needs) (λ c. search needs) lay-requires
+    (λ c. search needs) (λ c. search needs) (λ c. search needs) returns (λ c. search needs) returns-2 (λ c. search needs) returns-3
+    (λ c. search needs) (λ c. search needs) (λ c. search needs) returns-4 (λ c. search needs) (λ c. search needs)
+    (λ c. search needs) returns-5 (λ c. search needs) (λ c. search needs) returns-6 (λ c. search needs) (λ c. search needs)
+    (λ c. search needs) returns-7 (λ c. search needs) (λ c. search needs) (λ c. search needs) returns-8 (λ c. search needs)
+    (λ c. search needs) (λ c. search needs) returns-9 (λ c. search needs) returns-10 (λ c. search needs) returns-11 returns-12
+    (λ c. search needs) (λ c. search needs) (λ c. search needs) returns-13)
