@@ -86,7 +86,7 @@ long-back : (a b c d : ℕ) → a < 256 → b < 256 → c < 256 →
     (long a b c d % 256 ≡ a) × (long a b c d / 256 % 256 ≡ b) × (long a b c d / 65536 % 256 ≡ c) × (long a b c d / 16777216 ≡ d)
 long-back a b c d p q r = (omega arith, omega arith, omega arith, omega arith)
 
--- "a state record read and written again is the same sixteen bytes"
+-- a state record read and written again is the same sixteen bytes
 pub written-again : (r : List ℕ) (pins banks : ℕ) → length r ≡ 16 → ((k : ℕ) → at r k < 256) → wellFormed r ≡ true →
     recordOf (stateOf r pins banks) ≡ r
 unfolding recordOf stateOf
