@@ -56,7 +56,8 @@ steps =
     ∷ (let o = runs (registers 2 0 (state 9 0xF7 0 0xFF 0x20 0x8000)) (zeros 1 from 0x8000 holds (0x85 ∷ 0x01 ∷ [])) in
     writes o 2 0x0001 2 0xF7 && eqb (at (o .state) 9) 7 && keeps o 1 0)
     -- 13 IRQ: FFFE, FFFF, P with bit 4 clear, I set; with I set the instruction
-    ∷ (let o = tried (state 2 7 0 0xFF 0x20 0x8000) (zeros 1 from 0x8000 holds (0xEA ∷ []) from 0xFFFE holds (0x34 ∷ 0x12 ∷ [])) 4 0 in
+    ∷ (let o = tried (state 2 7 0 0xFF 0x20 0x8000)
+    (zeros 1 from 0x8000 holds (0xEA ∷ []) from 0xFFFE holds (0x34 ∷ 0x12 ∷ [])) 4 0 in
     results o 7 7 0xFC 0x24 && writes o 4 0x01FD 0 0x20 && reads o 5 0xFFFE 0 0x34 && reads o 6 0xFFFF 0 0x12 && pcIs o 0x34 0x12)
     ∷ results (tried (state 2 7 0 0xFF 0x24 0x8000) (zeros 1 from 0x8000 holds (0xEA ∷ [])) 4 0) 2 7 0xFF 0x24
     -- 15 NMI: an edge takes FFFA before an IRQ, and the level is stored; a level does not
@@ -106,7 +107,8 @@ steps =
     ∷ results (runs (state 2 7 0 0xFE 0x20 0x8000) (zeros 1 from 0x8000 holds (0x68 ∷ []) from 0x01FF holds (0x80 ∷ []))) 4 0x80
     0xFF 0xA0
     -- 39 the cycle count is 010304FF and then 01030501, "low byte first"
-    ∷ same (drop 12 (runs (take 12 (state 2 0 0 0 0x20 0x8000) ++ 0xFF ∷ 4 ∷ 3 ∷ 1 ∷ []) (zeros 1 from 0x8000 holds (0xEA ∷ [])) .state))
+    ∷ same (drop 12 (runs (take 12 (state 2 0 0 0 0x20 0x8000) ++ 0xFF ∷ 4 ∷ 3 ∷ 1 ∷ [])
+    (zeros 1 from 0x8000 holds (0xEA ∷ [])) .state))
     (1 ∷ 5 ∷ 3 ∷ 1 ∷ [])
     -- 40 sums past FFFF wrap: NOP at FFFF; LDA FFFF,X, X = 1; BNE at FFFD to 0000, and at 0000 to FFFF; JMP (FFFF)
     ∷ (let o = runs (state 2 0 0 0 0x20 0xFFFF) (zeros 1 from 0xFFFF holds (0xEA ∷ [])) in reads o 1 0x0000 0 0 && pcIs o 0x00 0x00)
@@ -158,7 +160,8 @@ steps =
     ∷ results (tried (registers 0x0F 0x00 (state 8 7 0 0xFF 0x20 0x8000)) (zeros 1 from 0x8000 holds (0xA5 ∷ 0x01 ∷ [])) 0 0xFF) 3
     0xF0 0xFF 0xA0
     -- 69 6509: "k = 1, 2, 4, 8 or 16"
-    ∷ same (map (λ k. stepWord (runs (state 9 0 0 0 0x20 0x8000) (zeros k) .answer)) (1 ∷ 2 ∷ 4 ∷ 8 ∷ 16 ∷ [])) (replicate 5 (256 * 7))
+    ∷ same (map (λ k. stepWord (runs (state 9 0 0 0 0x20 0x8000) (zeros k) .answer)) (1 ∷ 2 ∷ 4 ∷ 8 ∷ 16 ∷ []))
+    (replicate 5 (256 * 7))
     ∷ []
 
 computed-steps : failing 1 steps ≡ []

@@ -171,14 +171,14 @@ perform-spec =
     tie.close
     (tie.spec (λ c. search needs) (λ c κs. search needs) (λ c. search needs) (λ c. search needs) (λ c. search needs)
     (λ c κs. search needs) (λ c κs. search needs) (λ c. search needs) (λ c κs. search needs) (λ c κs. search needs)
-    (λ c. search needs) (λ c κs. search needs) (λ c κs. search needs) (λ c. search needs) (λ c κs. search needs) (λ c. search needs)
-    (λ c κs. search needs) (λ c κs. search needs) (λ c κs. search needs) (λ c. search needs) (λ c κs. search needs)
-    (λ c κs. search needs) (λ c κs. search needs) (λ c. search needs) (λ c κs. search needs) (λ c κs. search needs)
     (λ c. search needs) (λ c κs. search needs) (λ c κs. search needs) (λ c. search needs) (λ c κs. search needs)
-    (λ c κs. search needs) (λ c. search needs) (λ c κs. search needs) (λ c κs. search needs) (λ c. search needs) lay-requires
-    (λ c. search needs) (λ c. search needs) (λ c. search needs) returns (λ c. search needs) returns-2 (λ c. search needs) returns-3
-    (λ c. search needs) (λ c. search needs) (λ c. search needs) returns-4 (λ c. search needs) (λ c. search needs)
-    (λ c. search needs) returns-5 (λ c. search needs) (λ c. search needs) returns-6 (λ c. search needs) (λ c. search needs)
-    (λ c. search needs) returns-7 (λ c. search needs) (λ c. search needs) (λ c. search needs) returns-8 (λ c. search needs)
-    (λ c. search needs) (λ c. search needs) returns-9 (λ c. search needs) returns-10 (λ c. search needs) returns-11 returns-12
-    (λ c. search needs) (λ c. search needs) (λ c. search needs) returns-13)
+    (λ c. search needs) (λ c κs. search needs) (λ c κs. search needs) (λ c κs. search needs) (λ c. search needs)
+    (λ c κs. search needs) (λ c κs. search needs) (λ c κs. search needs) (λ c. search needs) (λ c κs. search needs)
+    (λ c κs. search needs) (λ c. search needs) (λ c κs. search needs) (λ c κs. search needs) (λ c. search needs)
+    (λ c κs. search needs) (λ c κs. search needs) (λ c. search needs) (λ c κs. search needs) (λ c κs. search needs)
+    (λ c. search needs) lay-requires (λ c. search needs) (λ c. search needs) (λ c. search needs) returns (λ c. search needs) returns-2
+    (λ c. search needs) returns-3 (λ c. search needs) (λ c. search needs) (λ c. search needs) returns-4 (λ c. search needs)
+    (λ c. search needs) (λ c. search needs) returns-5 (λ c. search needs) (λ c. search needs) returns-6 (λ c. search needs)
+    (λ c. search needs) (λ c. search needs) returns-7 (λ c. search needs) (λ c. search needs) (λ c. search needs) returns-8
+    (λ c. search needs) (λ c. search needs) (λ c. search needs) returns-9 (λ c. search needs) returns-10 (λ c. search needs) returns-11
+    returns-12 (λ c. search needs) (λ c. search needs) (λ c. search needs) returns-13)
