@@ -7,12 +7,11 @@ use mathlib.Core.List.{List, map}
 use lib.Dec.{eqb}
 use Rattle.rules.specs.declared.Bus.{Bus}
 use Rattle.rules.specs.declared.Cpu.{Cpu}
-use Rattle.rules.specs.declared.Mode.{Mode}
 use Rattle.rules.specs.declared.State.{State}
 use Rattle.rules.specs.declared.Instruction.{Instruction}
 use Rattle.rules.specs.declared.Instruction.the-variants.{Undefined}
 use Rattle.rules.specs.Basics.{if_then_else_, address, sum16}
-use Rattle.rules.specs.Cycles.{execution, Cycles, done, read, _>>=_, _>>_, Ran, run}
+use Rattle.rules.specs.Cycles.{Bank, execution, Cycles, done, read, _>>=_, _>>_, Ran, run}
 use Rattle.rules.specs.Bus.{World, world, images, look, board}
 use Rattle.rules.specs.Addressing.{get}
 use Rattle.rules.specs.Opcodes.{Entry, undefined, alone, byte, word, late, decode, isDefined, instructionOf}
@@ -27,7 +26,7 @@ use Rattle.laws.proofs.Goes.{ended, then-do, then-call}
 use Rattle.wiring.specs.declared.Wiring.{Wiring}
 use Rattle.wiring.specs.Wiring.{Stands}
 use Rattle.processor.specs.Begun.{short}
-use Rattle.laws.specs.Sizes.{modeSize, sizeIn}
+use Rattle.laws.specs.Sizes.{sizeIn}
 use Rattle.processor.specs.Rest.{highOf, past, pastIn, behind, begunBy, rest, Fetched, Opens, Reaches}
 
 -- each is one computed claim on the table of 256
@@ -114,10 +113,9 @@ opened n pc t {m} {u} {u′} {i} {l} {i′} {l₁} {l′} {a} = go (eqb n 3)
     go true d e = then-do t d e
     go false d e = then-do t d e
 
-pub reaches : {f : Cpu → Mode → Cycles ℕ} {m : Mode} {s : State} {i l r′ l₁ l′ : List ℕ} {v n : ℕ} →
-    Opens (modeSize m) s i l r′ l₁ →
-    Goes (f (past (modeSize m) (s .cpu)) m) (begunBy (modeSize m)) (s .bus) i l₁ v n (s .bus) i l′ → Reaches f m s i l v n r′ l′
-reaches {m = m} {s = s} o g = record { bytes = o .bytes; goes = opened (modeSize m) (s .cpu .pc) _ (o .goes) g }
+pub reaches : (n : ℕ) {t : Cycles ℕ} {s : State} {i l r′ l₁ l′ : List ℕ} {v k : ℕ} → Opens n s i l r′ l₁ →
+    Goes t (begunBy n) (s .bus) i l₁ v k (s .bus) i l′ → Reaches n t s i l v k r′ l′
+reaches n {s = s} o g = record { bytes = o .bytes; goes = opened n (s .cpu .pc) _ (o .goes) g }
 
 -- an instruction behind its fetched bytes
 pub opened-does : (n : ℕ) {t : Cycles Cpu} {s : State} {m : ℕ} {i l r₁ l₁ r′ i′ l′ : List ℕ} → Opens n s i l r₁ l₁ →
@@ -131,11 +129,11 @@ one e = record { bytes = e; goes = ended }
 pub two : {s : State} {i l r′ : List ℕ} → r′ ≡ recordOf (pastIn 2 s) → Opens 2 s i l r′ l
 two e = record { bytes = e; goes = ended }
 
-pub stands-past : {f : ℕ → ℕ} {s : State} {r i r′ : List ℕ} {w : Wiring} {pc : ℕ} (n : ℕ) → Fetched f s r i w pc →
-    r′ ≡ recordOf (pastIn n s) → Stands execution (pastIn n s) r′ w
-stands-past n h e = record { bytes = e; wired = h .stands .wired }
+pub stands-past : {κ : Bank} {s : State} {r r′ : List ℕ} {w : Wiring} (n : ℕ) → Stands κ s r w → r′ ≡ recordOf (pastIn n s) →
+    Stands κ (pastIn n s) r′ w
+stands-past n h e = record { bytes = e; wired = h .wired }
 
--- what is done with what a mode found
+-- what follows what a mode found
 behind-call : {A B : Type 0} (n pc : ℕ) (t : Cycles A) (f : A → Cycles B) → behind n pc (t >>= f) ≡ behind n pc t >>= f
 unfolding _>>=_
 behind-call n pc t f = go (eqb n 3)
@@ -144,9 +142,13 @@ behind-call n pc t f = go (eqb n 3)
     go true = refl
     go false = refl
 
-pub reached : {f : Cpu → Mode → Cycles ℕ} (m : Mode) {s : State} {i l r₁ l₁ r′ i′ l′ : List ℕ} {v k n : ℕ} (g : ℕ → Cycles Cpu) →
-    Reaches f m s i l v k r₁ l₁ → Does (g v) k (pastIn (modeSize m) s) i l₁ n r′ i′ l′ →
-    Does (behind (modeSize m) (s .cpu .pc) (f (past (modeSize m) (s .cpu)) m >>= g)) 2 s i l n r′ i′ l′
-reached {f} m {s} g o d =
-    rw (behind-call (modeSize m) (s .cpu .pc) (f (past (modeSize m) (s .cpu)) m) g)
+pub reaches-on : (n : ℕ) {t : Cycles ℕ} {s : State} {i l r₁ l₁ l′ : List ℕ} {v v′ k k′ : ℕ} (g : ℕ → Cycles ℕ) →
+    Reaches n t s i l v k r₁ l₁ → Goes (g v) k (s .bus) i l₁ v′ k′ (s .bus) i l′ → Reaches n (t >>= g) s i l v′ k′ r₁ l′
+reaches-on n {t} {s} g o d =
+    record { bytes = o .bytes; goes = rw (behind-call n (s .cpu .pc) t g) (then-call g (o .goes) d) }
+
+pub reached : (n : ℕ) {t : Cycles ℕ} {s : State} {i l r₁ l₁ r′ i′ l′ : List ℕ} {v k m : ℕ} (g : ℕ → Cycles Cpu) →
+    Reaches n t s i l v k r₁ l₁ → Does (g v) k (pastIn n s) i l₁ m r′ i′ l′ → Does (behind n (s .cpu .pc) (t >>= g)) 2 s i l m r′ i′ l′
+reached n {t} {s} g o d =
+    rw (behind-call n (s .cpu .pc) t g)
     (record { cpu = d .cpu; bus = d .bus; bytes = d .bytes; goes = then-call g (o .goes) (d .goes) })

@@ -1,3 +1,4 @@
+pub mod Behind
 pub mod Back
 pub mod Plain
 pub mod Fetches

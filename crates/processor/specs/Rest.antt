@@ -13,10 +13,10 @@ use Rattle.rules.specs.declared.Instruction.the-variants.{Jsr, Brk, Txs, Cli, U
 use Rattle.rules.specs.declared.Cpu.{Cpu}
 use Rattle.rules.specs.declared.State.{State}
 use Rattle.rules.specs.Basics.{if_then_else_, sum16}
-use Rattle.rules.specs.Cycles.{execution, Cycles, done, _>>=_, _>>_}
+use Rattle.rules.specs.Cycles.{Bank, execution, Cycles, done, _>>=_, _>>_}
 use Rattle.rules.specs.Bus.{world, images, look}
 use Rattle.rules.specs.Record.{recordOf}
-use Rattle.rules.specs.Addressing.{get}
+use Rattle.rules.specs.Addressing.{get, pointer, zeroIndexed, indexed, loadIndexed}
 use Rattle.rules.specs.Operations.{withPc, perform}
 use Rattle.laws.specs.Goes.{Goes}
 use Rattle.laws.specs.States.{moved}
@@ -86,7 +86,18 @@ pub record Opens (n : ℕ) (s : State) (i l r′ l′ : List ℕ) : Type 0 where
   pub bytes : r′ ≡ recordOf (pastIn n s)
   pub goes : Goes {A = Unit {0}} (behind n (s .cpu .pc) (done tt)) 2 (s .bus) i l tt (begunBy n) (s .bus) i l′
 
--- what `load` and `place` find by a mode
-pub record Reaches (f : Cpu → Mode → Cycles ℕ) (m : Mode) (s : State) (i l : List ℕ) (v n : ℕ) (r′ l′ : List ℕ) : Type 0 where
-  pub bytes : r′ ≡ recordOf (pastIn (modeSize m) s)
-  pub goes : Goes (behind (modeSize m) (s .cpu .pc) (f (past (modeSize m) (s .cpu)) m)) 2 (s .bus) i l v n (s .bus) i l′
+-- n bytes are fetched, PC is behind them, and the accesses t, of which k were made then, found v
+pub record Reaches (n : ℕ) (t : Cycles ℕ) (s : State) (i l : List ℕ) (v k : ℕ) (r′ l′ : List ℕ) : Type 0 where
+  pub bytes : r′ ≡ recordOf (pastIn n s)
+  pub goes : Goes (behind n (s .cpu .pc) t) 2 (s .bus) i l v k (s .bus) i l′
+
+-- a load by z,X or z,Y, i being the register's value
+abbrev pub loadZeroIndexed : ℕ → ℕ → Cycles ℕ
+loadZeroIndexed z i = zeroIndexed z i >>= get
+
+-- a load, and the place of a store, by (z),Y in a bank
+abbrev pub loadBehind : Bank → ℕ → ℕ → Cycles ℕ
+loadBehind κ z i = pointer z >>= λ a. loadIndexed κ a i
+
+abbrev pub placeBehind : Bank → ℕ → ℕ → Cycles ℕ
+placeBehind κ z i = pointer z >>= λ a. indexed κ a i

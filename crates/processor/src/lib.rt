@@ -6,8 +6,10 @@ use addressing::Spot;
 use rules::Changing;
 use rules::Condition;
 use rules::Instruction;
+use rules::Internal;
 use rules::Mode;
 use rules::Reading;
+use rules::Stacking;
 use rules::Storing;
 use wiring::Wiring;
 ghost use Prim.Native.Nat.{ℕ, _+_, _/_, _%_, _≤_, _<_};
@@ -16,15 +18,12 @@ ghost use mathlib.Core.Bool.{true, false};
 ghost use mathlib.Core.List.{List};
 ghost use lib.ListN.{length};
 ghost use Rattle.rules.specs.declared.State.{State};
-ghost use Rattle.rules.specs.declared.Instruction.the-variants.{Read, Branch};
+ghost use Rattle.rules.specs.declared.Instruction.the-variants.{Read, Accumulator, Implied, AtStack, Branch, Jump, JumpIndirect, Txs, Cli};
 ghost use Rattle.rules.specs.Cycles.{execution};
 ghost use Rattle.rules.specs.Bus.{world, images, look};
 ghost use Rattle.rules.specs.Record.{recordOf};
-ghost use Rattle.rules.specs.Addressing.{bankOf};
-ghost use Rattle.rules.specs.Arithmetic.{changed};
-ghost use Rattle.rules.specs.Operations.{withP, withS, withResult, registerOf, taken, perform};
-ghost use Rattle.rules.specs.Flags.{flagsOf, withI};
-ghost use Rattle.state.specs.Makes.{Makes};
+ghost use Rattle.rules.specs.Operations.{registerOf, taken, perform};
+ghost use Rattle.rules.specs.Flags.{flagsOf};
 ghost use Rattle.wiring.specs.Wiring.{Wired, Stands, Ready};
 ghost use Rattle.laws.specs.Goes.{Goes, Does};
 ghost use Rattle.processor.specs.Begun.{short};
@@ -45,18 +44,6 @@ fn register_of(o: Storing, state: &[u8]) -> u8
     }
 }
 
-// "Only the last one or two accesses of B1 and 91 (after the pointer) use the indirect bank."
-fn wiring_of(m: Mode, state: &[u8], w: Wiring) -> Wiring
-    requires { ⌜ ((length (now state) ≡ 16) × (w .base + 65536 ≤ w .size)) × (w .size % 65536 ≡ 0) ⌝ }
-    ensures { λ r. ⌜ ((r .base + 65536 ≤ w .size) × (r .size ≡ w .size))
-        × ((s : State) → Stands execution s (now (state .entry)) w → Stands (bankOf m) s (now (state .entry)) r) ⌝ }
-{
-    if let Mode::IndirectBankY(_) = m {
-        return wiring::indirect(state, w);
-    }
-    w
-}
-
 fn store(
     o: Storing,
     m: Mode,
@@ -71,7 +58,7 @@ fn store(
         Does (storedAt o m (at .address) (s .cpu)) (at .count) s (now (image .entry)) (now (list .entry)) (at .count + 1)
         (now (state .exit)) (now (image .exit)) (now (list .exit))) ⌝ }
 {
-    let there = wiring_of(m, state, w);
+    let there = addressing::wiring_of(m, state, w);
     let v = register_of(o, state);
     writes::write(state, there, image, list, at.count, at.address, v);
 }
@@ -236,29 +223,88 @@ fn read_into(
 }
 
 // ASL, ROL, LSR, ROR of A.
-fn accumulated(o: Changing, state: &mut [u8])
+fn accumulated(o: Changing, pc: u16, state: &mut [u8])
     requires { ⌜ length (now state) ≡ 16 ⌝ }
-    ensures { λ r. ⌜ Makes (λ c. withResult (changed o (c .a) (c .p)) c) (now (state .entry)) (now (state .exit)) ⌝ }
+    ensures { λ r. ⌜ ((s : State) (i l : List ℕ) → now (state .entry) ≡ recordOf s → pc ≡ s .cpu .pc →
+        Does (rest (Accumulator o) (s .cpu)) 2 s i l 2 (now (state .exit)) i l) ⌝ }
 {
+    addressing::past(1, pc, state);
     let a = state[state::A];
     let f = state::flags_of(state);
     state::to_result(state, arithmetic::changed(o, a, f))
 }
 
-fn txs(state: &mut [u8])
+fn implied(o: Internal, pc: u16, state: &mut [u8])
     requires { ⌜ length (now state) ≡ 16 ⌝ }
-    ensures { λ r. ⌜ Makes (λ c. withS (c .x) c) (now (state .entry)) (now (state .exit)) ⌝ }
+    ensures { λ r. ⌜ ((s : State) (i l : List ℕ) → now (state .entry) ≡ recordOf s → pc ≡ s .cpu .pc →
+        Does (rest (Implied o) (s .cpu)) 2 s i l 2 (now (state .exit)) i l) ⌝ }
 {
+    addressing::past(1, pc, state);
+    internal::inside(o, state)
+}
+
+fn txs(pc: u16, state: &mut [u8])
+    requires { ⌜ length (now state) ≡ 16 ⌝ }
+    ensures { λ r. ⌜ ((s : State) (i l : List ℕ) → now (state .entry) ≡ recordOf s → pc ≡ s .cpu .pc →
+        Does (rest Txs (s .cpu)) 2 s i l 2 (now (state .exit)) i l) ⌝ }
+{
+    addressing::past(1, pc, state);
     let x = state[state::X];
     state::set_s(state, x)
 }
 
-fn cli(state: &mut [u8])
+fn cli(pc: u16, state: &mut [u8])
     requires { ⌜ length (now state) ≡ 16 ⌝ }
-    ensures { λ r. ⌜ Makes (λ c. withP (withI false (c .p)) c) (now (state .entry)) (now (state .exit)) ⌝ }
+    ensures { λ r. ⌜ ((s : State) (i l : List ℕ) → now (state .entry) ≡ recordOf s → pc ≡ s .cpu .pc →
+        Does (rest Cli (s .cpu)) 2 s i l 2 (now (state .exit)) i l) ⌝ }
 {
+    addressing::past(1, pc, state);
     let f = state::flags_of(state);
     state::set_flags(state, flags::with_i(false, f))
+}
+
+fn at_stack(
+    o: Stacking,
+    pc: u16,
+    state: &mut [u8],
+    w: Wiring,
+    image: &mut [u8],
+    list: &mut [u8],
+) -> usize
+    requires { ⌜ Ready w (length (now state)) (length (now image)) (length (now list)) ⌝ }
+    ensures { λ r. ⌜ (r ≤ 7) × ((s : State) → Stands execution s (now (state .entry)) w → pc ≡ s .cpu .pc →
+        Does (rest (AtStack o) (s .cpu)) 2 s (now (image .entry)) (now (list .entry)) r (now (state .exit)) (now (image .exit))
+        (now (list .exit))) ⌝ }
+{
+    addressing::past(1, pc, state);
+    stacking::at_stack(o, state, w, image, list)
+}
+
+fn jump(low: u8, high: u8, pc: u16, state: &mut [u8], w: Wiring, list: &mut [u8])
+    requires { ⌜ (length (now state) ≡ 16) × (56 ≤ length (now list)) ⌝ }
+    ensures { λ r. ⌜ ((s : State) (i : List ℕ) → Fetched (λ v. high) s (now (state .entry)) i w pc →
+        Does (rest (Jump low high) (s .cpu)) 2 s i (now (list .entry)) 3 (now (state .exit)) i (now (list .exit))) ⌝ }
+{
+    let a = addressing::absolute(low, high, pc, state, w, list);
+    state::set_pc(state, a);
+}
+
+fn jump_indirect(
+    low: u8,
+    high: u8,
+    pc: u16,
+    state: &mut [u8],
+    w: Wiring,
+    image: &[u8],
+    list: &mut [u8],
+)
+    requires { ⌜ Ready w (length (now state)) (length (now image)) (length (now list)) ⌝ }
+    ensures { λ r. ⌜ ((s : State) → Fetched (λ v. high) s (now (state .entry)) (now (image .entry)) w pc →
+        Does (rest (JumpIndirect low high) (s .cpu)) 2 s (now (image .entry)) (now (list .entry)) 5 (now (state .exit))
+        (now (image .entry)) (now (list .exit))) ⌝ }
+{
+    let a = addressing::absolute(low, high, pc, state, w, list);
+    jumps::jump_indirect(a, state, w, image, list);
 }
 
 // An instruction whose opcode and next byte were listed: the high byte of its address, its own accesses, and what it leaves. Answers the
@@ -282,33 +328,26 @@ fn perform(
             lay(i, m, pc, state, w, image, list)
         }
         Instruction::Accumulator(o) => {
-            addressing::past(1, pc, state);
-            accumulated(o, state);
+            accumulated(o, pc, state);
             2
         }
         Instruction::Implied(o) => {
-            addressing::past(1, pc, state);
-            internal::inside(o, state);
+            implied(o, pc, state);
             2
         }
-        Instruction::AtStack(o) => {
-            addressing::past(1, pc, state);
-            stacking::at_stack(o, state, w, image, list)
-        }
+        Instruction::AtStack(o) => at_stack(o, pc, state, w, image, list),
         Instruction::Branch(t, o) => branch(t, o, pc, state, w, image, list),
         Instruction::Jump(low, high) => {
-            addressing::third(high, pc, state, w, list);
-            state::set_pc(state, bytes::join(low, high));
+            jump(low, high, pc, state, w, list);
             3
         }
         Instruction::JumpIndirect(low, high) => {
-            addressing::third(high, pc, state, w, list);
-            sequence::jump_indirect(bytes::join(low, high), state, w, image, list);
+            jump_indirect(low, high, pc, state, w, image, list);
             5
         }
         Instruction::Jsr(low) => {
             let two = std::num::wrapping_add_u16(pc, 2);
-            sequence::jsr(low, two, state, w, image, list);
+            jumps::jsr(low, two, state, w, image, list);
             6
         }
         Instruction::Brk => {
@@ -317,13 +356,11 @@ fn perform(
             7
         }
         Instruction::Txs => {
-            addressing::past(1, pc, state);
-            txs(state);
+            txs(pc, state);
             2
         }
         Instruction::Cli => {
-            addressing::past(1, pc, state);
-            cli(state);
+            cli(pc, state);
             2
         }
         Instruction::Undefined => 0,

@@ -13,6 +13,7 @@ pub mod Formed
 pub mod General
 pub mod Internal
 pub mod Interrupts
+pub mod Jumps
 pub mod Listing
 pub mod Operations
 pub mod Pages

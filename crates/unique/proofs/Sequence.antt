@@ -1,4 +1,4 @@
--- The same of JSR, JMP (a), BRK, and of what the interrupts have in common with BRK.
+-- The same of BRK, and of what the interrupts have in common with it.
 use denote.Ref.{now}
 use Rattle.rules.specs.declared.State.{State}
 use Rattle.rules.specs.Cycles.{execution}
@@ -19,11 +19,3 @@ enter s κs a h x y p q j = let e = does (p s h) (q s h) j in (tt, (tt, (e .stat
 pub brk : (s : State) → UniqueWhere its.brk.Kinds.ps its.brk.Kinds.r
     (λ κs a. Stands execution s (now (a .1 .0)) (a .1 .1 .0)) its.brk.Reads.Post
 brk s κs a h x y p q j = let e = does (p s h) (q s h) j in (tt, (tt, (e .state, (tt, (e .image, (e .accesses, tt))))))
-
-pub jsr : (s : State) → UniqueWhere its.jsr.Kinds.ps its.jsr.Kinds.r
-    (λ κs a. Stands execution s (now (a .1 .1 .0)) (a .1 .1 .1 .0)) its.jsr.Reads.Post
-jsr s κs a h x y p q j = let e = does (p s h) (q s h) j in (tt, (tt, (tt, (e .state, (tt, (e .image, (e .accesses, tt)))))))
-
-pub jump-indirect : (s : State) → UniqueWhere its.jump_indirect.Kinds.ps its.jump_indirect.Kinds.r
-    (λ κs a. Stands execution s (now (a .1 .0)) (a .1 .1 .0)) its.jump_indirect.Reads.Post
-jump-indirect s κs a h x y p q j = let e = does (p s h) (q s h) j in (tt, (tt, (e .state, (tt, (tt, (e .accesses, tt))))))

@@ -37,8 +37,8 @@ returns c =
       λ s h.
           let m = start .args .m in
           let g = at-place .place .ensures .1 s h in
-          let t = stands-past (modeSize m) h (g .bytes) in
-          rw (is-store (start .pre .0 .0) (at-i .i .given .1)) (reached m _ g (at-store .store .ensures _ t)),
+          let t = stands-past (modeSize m) (h .stands) (g .bytes) in
+          rw (is-store (start .pre .0 .0) (at-i .i .given .1)) (reached (modeSize m) _ g (at-store .store .ensures _ t)),
     )
 
 returns-2 : tie.Need-returns-2
@@ -55,8 +55,8 @@ returns-2 c =
       λ s h.
           let m = start .args .m in
           let g = at-place .place .ensures .1 s h in
-          let t = stands-past (modeSize m) h (g .bytes) in
-          rw is (reached m _ g (at-change .change .ensures _ t)),
+          let t = stands-past (modeSize m) (h .stands) (g .bytes) in
+          rw is (reached (modeSize m) _ g (at-change .change .ensures _ t)),
     )
 
 -- the tags of all that does not lay

@@ -1,14 +1,11 @@
 use mathlib.Core.Logic.{⊎-elim}
 use mathlib.Core.Path.{_≡_, sym, _∙_}
-use Rattle.processor.specs.Laid.{Lays}
-use Rattle.processor.proofs.Lays.{as-store, as-change, lays-fetched}
-use Rattle.processor.proofs.Fetches.{opened-does, one, stands-past}
-use Rattle.processor.specs.Rest.{rest}
-use Rattle.rules.specs.Operations.{perform}
-use Rattle.laws.proofs.Goes.{does, ended}
 use mathlib.Core.Bool.{false≢true}
 use native.Mathlib.Omega.{arith}
-use Rattle.state.proofs.Registers.{makes-pc}
+use Rattle.rules.specs.Operations.{perform}
+use Rattle.processor.specs.Laid.{Lays}
+use Rattle.processor.specs.Rest.{rest}
+use Rattle.processor.proofs.Lays.{as-store, as-change, lays-fetched}
 use borrow.Author.Needs.{needs}
 use Rattle.processor.proofs.perform.Statement.{statement}
 use Rattle.processor.proofs.perform.Tie as tie
@@ -33,38 +30,25 @@ returns c =
 returns-2 : tie.Need-returns-2
 unfolding perform rest
 returns-2 c =
-    let at-accumulated = c .before .before in
-    let at-past = at-accumulated .before .before .before .before in
-    let at-i4 = at-past .before .before .before in (
+    let at-i4 = c .before .before .before .before .before in (
       omega arith,
-      λ s h.
-          let e = at-past .past .ensures s (h .stands .bytes) (h .here) in
-          rw (at-i4 .i4 .given .1) (opened-does 1 (one e) (does _ (at-accumulated .accumulated .ensures _ e) ended)),
+      λ s h. rw (at-i4 .i4 .given .1) (c .before .before .accumulated .ensures s _ _ (h .stands .bytes) (h .here)),
     )
 
 returns-3 : tie.Need-returns-3
 unfolding perform rest
 returns-3 c =
-    let at-inside = c .before .before in
-    let at-past2 = at-inside .before .before .before .before in
-    let at-i5 = at-past2 .before .before .before in (
+    let at-i5 = c .before .before .before .before .before in (
       omega arith,
-      λ s h.
-          let e = at-past2 .past2 .ensures s (h .stands .bytes) (h .here) in
-          rw (at-i5 .i5 .given .1) (opened-does 1 (one e) (does _ (at-inside .inside .ensures _ e) ended)),
+      λ s h. rw (at-i5 .i5 .given .1) (c .before .before .implied .ensures s _ _ (h .stands .bytes) (h .here)),
     )
 
 returns-4 : tie.Need-returns-4
 unfolding perform rest
 returns-4 c =
     let at-at-stack = c .before .before .before .before .before .before in
-    let at-past3 = at-at-stack .before .before .before .before .before .before in
-    let at-i6 = at-past3 .before .before .before in (
-      at-at-stack .at-stack .ensures .0,
-      λ s h.
-          let e = at-past3 .past3 .ensures s (h .stands .bytes) (h .here) in
-          rw (at-i6 .i6 .given .1) (opened-does 1 (one e) (at-at-stack .at-stack .ensures .1 _ (stands-past 1 h e))),
-    )
+    let at-i6 = at-at-stack .before .before .before .before .before in
+    (at-at-stack .at-stack .ensures .0, λ s h. rw (at-i6 .i6 .given .1) (at-at-stack .at-stack .ensures .1 s (h .stands) (h .here)))
 
 returns-5 : tie.Need-returns-5
 unfolding perform rest
@@ -76,31 +60,18 @@ returns-5 c =
 returns-6 : tie.Need-returns-6
 unfolding perform rest
 returns-6 c =
-    let at-set-pc = c .before .before in
-    let at-join = at-set-pc .before in
-    let at-third = at-join .before .before .before .before .before .before in
-    let at-i8 = at-third .before .before .before .before in
-    let is = at-i8 .i8 .given .1 in (
-      omega arith,
-      λ s h.
-          let o = at-third .third .ensures s _ (rw is at h) in
-          rw is (opened-does 3 o (does _ (makes-pc (at-join .join .ensures) (at-set-pc .set-pc .ensures) _ (o .bytes)) ended)),
-    )
+    let at-jump = c .before .before .before .before in
+    let at-i8 = at-jump .before .before .before .before in
+    let is = at-i8 .i8 .given .1 in
+    (omega arith, λ s h. rw is (at-jump .jump .ensures s _ (rw is at h)))
 
 returns-7 : tie.Need-returns-7
 unfolding perform rest
 returns-7 c =
     let at-jump-indirect = c .before .before .before .before in
-    let at-join2 = at-jump-indirect .before .before .before .before in
-    let at-third2 = at-join2 .before .before .before .before .before in
-    let at-i9 = at-third2 .before .before .before .before in
-    let is = at-i9 .i9 .given .1 in (
-      omega arith,
-      λ s h.
-          let o = at-third2 .third2 .ensures s _ (rw is at h) in
-          let to = rw (at-join2 .join2 .ensures) at (at-jump-indirect .jump-indirect .ensures _ (stands-past 3 h (o .bytes))) in
-          rw is (opened-does 3 o to),
-    )
+    let at-i9 = at-jump-indirect .before .before .before .before .before in
+    let is = at-i9 .i9 .given .1 in
+    (omega arith, λ s h. rw is (at-jump-indirect .jump-indirect .ensures s (rw is at h)))
 
 returns-8 : tie.Need-returns-8
 unfolding perform rest
@@ -129,25 +100,17 @@ returns-9 c =
 returns-10 : tie.Need-returns-10
 unfolding perform rest
 returns-10 c =
-    let at-txs = c .before .before in
-    let at-past4 = at-txs .before .before .before .before in
-    let at-enum-told2 = at-past4 .before .before in (
+    let at-enum-told2 = c .before .before .before .before in (
       omega arith,
-      λ s h.
-          let e = at-past4 .past4 .ensures s (h .stands .bytes) (h .here) in
-          rw (at-enum-told2 .enum-told2 .given .1) (opened-does 1 (one e) (does _ (at-txs .txs .ensures _ e) ended)),
+      λ s h. rw (at-enum-told2 .enum-told2 .given .1) (c .before .before .txs .ensures s _ _ (h .stands .bytes) (h .here)),
     )
 
 returns-11 : tie.Need-returns-11
 unfolding perform rest
 returns-11 c =
-    let at-cli = c .before .before in
-    let at-past5 = at-cli .before .before .before .before in
-    let at-enum-told3 = at-past5 .before .before in (
+    let at-enum-told3 = c .before .before .before .before in (
       omega arith,
-      λ s h.
-          let e = at-past5 .past5 .ensures s (h .stands .bytes) (h .here) in
-          rw (at-enum-told3 .enum-told3 .given .1) (opened-does 1 (one e) (does _ (at-cli .cli .ensures _ e) ended)),
+      λ s h. rw (at-enum-told3 .enum-told3 .given .1) (c .before .before .cli .ensures s _ _ (h .stands .bytes) (h .here)),
     )
 
 returns-12 : tie.Need-returns-12
@@ -170,15 +133,13 @@ pub perform-spec : {M : Type 1} → statement M
 perform-spec =
     tie.close
     (tie.spec (λ c. search needs) (λ c κs. search needs) (λ c. search needs) (λ c. search needs) (λ c. search needs)
-    (λ c κs. search needs) (λ c κs. search needs) (λ c. search needs) (λ c κs. search needs) (λ c κs. search needs)
-    (λ c. search needs) (λ c κs. search needs) (λ c κs. search needs) (λ c. search needs) (λ c κs. search needs)
-    (λ c. search needs) (λ c κs. search needs) (λ c κs. search needs) (λ c κs. search needs) (λ c. search needs)
-    (λ c κs. search needs) (λ c κs. search needs) (λ c κs. search needs) (λ c. search needs) (λ c κs. search needs)
+    (λ c κs. search needs) (λ c. search needs) (λ c κs. search needs) (λ c. search needs) (λ c κs. search needs)
+    (λ c. search needs) (λ c κs. search needs) (λ c. search needs) (λ c κs. search needs) (λ c. search needs)
     (λ c κs. search needs) (λ c. search needs) (λ c κs. search needs) (λ c κs. search needs) (λ c. search needs)
-    (λ c κs. search needs) (λ c κs. search needs) (λ c. search needs) (λ c κs. search needs) (λ c κs. search needs)
-    (λ c. search needs) lay-requires (λ c. search needs) (λ c. search needs) (λ c. search needs) returns (λ c. search needs) returns-2
-    (λ c. search needs) returns-3 (λ c. search needs) (λ c. search needs) (λ c. search needs) returns-4 (λ c. search needs)
-    (λ c. search needs) (λ c. search needs) returns-5 (λ c. search needs) (λ c. search needs) returns-6 (λ c. search needs)
-    (λ c. search needs) (λ c. search needs) returns-7 (λ c. search needs) (λ c. search needs) (λ c. search needs) returns-8
-    (λ c. search needs) (λ c. search needs) (λ c. search needs) returns-9 (λ c. search needs) returns-10 (λ c. search needs) returns-11
-    returns-12 (λ c. search needs) (λ c. search needs) (λ c. search needs) returns-13)
+    (λ c κs. search needs) (λ c κs. search needs) (λ c. search needs) (λ c κs. search needs) (λ c. search needs)
+    (λ c κs. search needs) (λ c. search needs) lay-requires (λ c. search needs) (λ c. search needs) (λ c. search needs) returns
+    (λ c. search needs) returns-2 (λ c. search needs) returns-3 (λ c. search needs) (λ c. search needs) (λ c. search needs) returns-4
+    (λ c. search needs) (λ c. search needs) (λ c. search needs) returns-5 (λ c. search needs) (λ c. search needs) returns-6
+    (λ c. search needs) (λ c. search needs) (λ c. search needs) returns-7 (λ c. search needs) (λ c. search needs)
+    (λ c. search needs) returns-8 (λ c. search needs) (λ c. search needs) (λ c. search needs) returns-9 (λ c. search needs)
+    returns-10 (λ c. search needs) returns-11 returns-12 (λ c. search needs) (λ c. search needs) (λ c. search needs) returns-13)

@@ -1,4 +1,5 @@
 use Rattle.processor.proofs.Fetches.{reached}
+use Rattle.laws.specs.Sizes.{modeSize}
 use Rattle.processor.specs.Rest.{rest}
 use Rattle.rules.specs.Operations.{perform}
 use Rattle.laws.proofs.Goes.{does, ended}
@@ -16,7 +17,7 @@ returns c =
       omega (arith, at-load .load .ensures .0),
       λ s h.
           let g = at-load .load .ensures .1 s h in
-          reached (start .args .m) _ g (does _ (c .before .before .used .ensures _ (g .bytes)) ended),
+          reached (modeSize (start .args .m)) _ g (does _ (c .before .before .used .ensures _ (g .bytes)) ended),
     )
 
 pub read-into-spec : {M : Type 1} → statement M

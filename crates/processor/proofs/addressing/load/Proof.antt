@@ -1,195 +1,136 @@
+use mathlib.Core.Logic.{⊎-elim}
+use mathlib.Core.Path.{_≡_, sym, _∙_}
 use Rattle.rules.specs.Addressing.{load}
+use Rattle.rules.specs.Cycles.{execution}
+use Rattle.laws.proofs.Goes.{ended}
+use Rattle.state.proofs.Registers.{holds}
 use Rattle.processor.proofs.Fetches.{reaches, two, stands-past}
-use Rattle.rules.specs.Record.{recordOf}
-use Rattle.rules.specs.Cycles.{execution, indirect}
-use Rattle.laws.proofs.Goes.{then-call, ended}
 use native.Mathlib.Omega.{arith}
+use Rattle.processor.proofs.Behind.{Behind, as-execution, as-indirect, loads-behind}
 use borrow.Author.Needs.{needs}
 use Rattle.processor.proofs.addressing.load.Statement.{statement}
 use Rattle.processor.proofs.addressing.load.Tie as tie
 
 returns : tie.Need-returns
-unfolding load recordOf
+unfolding load
 returns c =
-    let at-past = c .before .before in
-    let at-m = at-past .before .before .before in (
+    let at-m = c .before .before .before .before .before in (
       omega arith,
       λ s h.
-          let e = at-past .past .ensures s (h .stands .bytes) (h .here) in
-          let t = stands-past 2 h e in
-          rw (at-m .m .given .1)
-          (reaches (two e)
-          ended),
+          let e = c .before .before .past .ensures s (h .stands .bytes) (h .here) in
+          rw (at-m .m .given .1) (reaches 2 (two e) ended),
     )
 
 returns-2 : tie.Need-returns-2
-unfolding load recordOf
+unfolding load
 returns-2 c =
-    let at-read = c .before .before in
-    let at-past2 = at-read .before .before .before .before .before in
-    let at-m2 = at-past2 .before .before .before in (
-      omega arith,
+    let at-from-zero = c .before .before .before .before in
+    let at-m2 = at-from-zero .before .before .before .before in (
+      at-from-zero .from-zero .ensures .0,
       λ s h.
-          let e = at-past2 .past2 .ensures s (h .stands .bytes) (h .here) in
-          let t = stands-past 2 h e in
-          rw (at-m2 .m2 .given .1)
-          (reaches (two e)
-          (at-read .read .ensures _ execution t)),
+          let found = at-from-zero .from-zero .ensures .1 s (h .stands) (h .here) in
+          rw (at-m2 .m2 .given .1) found,
     )
 
 returns-3 : tie.Need-returns-3
-unfolding load recordOf
+unfolding load
 returns-3 c =
-    let at-read2 = c .before .before in
-    let at-zero-indexed = at-read2 .before .before .before .before .before in
-    let at-past3 = at-zero-indexed .before .before .before .before .before in
-    let at-m3 = at-past3 .before .before .before in (
-      omega arith,
+    let at-from-zero-indexed = c .before .before .before .before in
+    let at-m3 = at-from-zero-indexed .before .before .before .before .before in (
+      at-from-zero-indexed .from-zero-indexed .ensures .0,
       λ s h.
-          let e = at-past3 .past3 .ensures s (h .stands .bytes) (h .here) in
-          let t = stands-past 2 h e in
-          rw (at-m3 .m3 .given .1)
-          (reaches (two e)
-          (then-call _ (rw (t .bytes) at (at-zero-indexed .zero-indexed .ensures _ t)) (at-read2 .read2 .ensures _ execution t))),
+          let found = at-from-zero-indexed .from-zero-indexed .ensures .1 s (h .stands) (h .here) in
+          rw (at-m3 .m3 .given .1) (rw (holds s (h .stands .bytes) .x) at found),
     )
 
 returns-4 : tie.Need-returns-4
-unfolding load recordOf
+unfolding load
 returns-4 c =
-    let at-read3 = c .before .before in
-    let at-zero-indexed2 = at-read3 .before .before .before .before .before in
-    let at-past4 = at-zero-indexed2 .before .before .before .before .before in
-    let at-m4 = at-past4 .before .before .before in (
-      omega arith,
+    let at-from-zero-indexed2 = c .before .before .before .before in
+    let at-m4 = at-from-zero-indexed2 .before .before .before .before .before in (
+      at-from-zero-indexed2 .from-zero-indexed2 .ensures .0,
       λ s h.
-          let e = at-past4 .past4 .ensures s (h .stands .bytes) (h .here) in
-          let t = stands-past 2 h e in
-          rw (at-m4 .m4 .given .1)
-          (reaches (two e)
-          (then-call _ (rw (t .bytes) at (at-zero-indexed2 .zero-indexed2 .ensures _ t)) (at-read3 .read3 .ensures _ execution t))),
+          let found = at-from-zero-indexed2 .from-zero-indexed2 .ensures .1 s (h .stands) (h .here) in
+          rw (at-m4 .m4 .given .1) (rw (holds s (h .stands .bytes) .y) at found),
     )
 
 returns-5 : tie.Need-returns-5
-unfolding load recordOf
+unfolding load
 returns-5 c =
-    let at-read4 = c .before .before in
-    let to-third = at-read4 .before .before .before .before .before .before in
-    let at-third = to-third .before in
-    let at-join = at-third .before .before .before in
-    let at-m5 = at-join .before .before in (
-      omega arith,
+    let at-from-absolute = c .before .before .before .before in
+    let at-m5 = at-from-absolute .before .before .before .before in (
+      at-from-absolute .from-absolute .ensures .0,
       λ s h.
-          let is = at-m5 .m5 .given .1 in
-          let o = at-third .third .ensures s _ (rw is at h) in
-          let t = stands-past 3 h (o .bytes) in
-          rw is
-          (reaches o
-          (rw (at-join .join .ensures) at (at-read4 .read4 .ensures _ execution t))),
+          let found = at-from-absolute .from-absolute .ensures .1 s (rw (at-m5 .m5 .given .1) at h) in
+          rw (at-m5 .m5 .given .1) found,
     )
 
 returns-6 : tie.Need-returns-6
-unfolding load recordOf
+unfolding load
 returns-6 c =
-    let at-load-indexed = c .before .before in
-    let to-third2 = at-load-indexed .before .before .before .before .before .before in
-    let at-third2 = to-third2 .before in
-    let at-join2 = at-third2 .before .before .before in
-    let at-m6 = at-join2 .before .before in (
-      omega (arith, at-load-indexed .load-indexed .ensures .0),
+    let to-absolute = c .before .before .before .before .before .before in
+    let at-absolute = to-absolute .before .before .before in
+    let at-m6 = at-absolute .before .before .before .before in (
+      omega (arith, c .before .before .load-indexed .ensures .0),
       λ s h.
           let is = at-m6 .m6 .given .1 in
-          let o = at-third2 .third2 .ensures s _ (rw is at h) in
-          let t = stands-past 3 h (o .bytes) in
-          rw is
-          (reaches o
-          (rw (at-join2 .join2 .ensures, t .bytes) at (at-load-indexed .load-indexed .ensures .1 _ execution t))),
+          let o = at-absolute .absolute .ensures .1 s _ (rw is at h) in
+          let t = stands-past 3 (h .stands) (o .bytes) in
+          let found = c .before .before .load-indexed .ensures .1 _ execution t in
+          rw is (reaches 3 o (rw (at-absolute .absolute .ensures .0, holds _ (o .bytes) .x) at found)),
     )
 
 returns-7 : tie.Need-returns-7
-unfolding load recordOf
+unfolding load
 returns-7 c =
-    let at-load-indexed2 = c .before .before in
-    let to-third3 = at-load-indexed2 .before .before .before .before .before .before in
-    let at-third3 = to-third3 .before in
-    let at-join3 = at-third3 .before .before .before in
-    let at-m7 = at-join3 .before .before in (
-      omega (arith, at-load-indexed2 .load-indexed2 .ensures .0),
+    let to-absolute2 = c .before .before .before .before .before .before in
+    let at-absolute2 = to-absolute2 .before .before .before in
+    let at-m7 = at-absolute2 .before .before .before .before in (
+      omega (arith, c .before .before .load-indexed2 .ensures .0),
       λ s h.
           let is = at-m7 .m7 .given .1 in
-          let o = at-third3 .third3 .ensures s _ (rw is at h) in
-          let t = stands-past 3 h (o .bytes) in
-          rw is
-          (reaches o
-          (rw (at-join3 .join3 .ensures, t .bytes) at (at-load-indexed2 .load-indexed2 .ensures .1 _ execution t))),
+          let o = at-absolute2 .absolute2 .ensures .1 s _ (rw is at h) in
+          let t = stands-past 3 (h .stands) (o .bytes) in
+          let found = c .before .before .load-indexed2 .ensures .1 _ execution t in
+          rw is (reaches 3 o (rw (at-absolute2 .absolute2 .ensures .0, holds _ (o .bytes) .y) at found)),
     )
 
 returns-8 : tie.Need-returns-8
-unfolding load recordOf
+unfolding load
 returns-8 c =
-    let at-read5 = c .before .before in
-    let at-pointer = at-read5 .before .before .before .before .before in
-    let at-zero-indexed3 = at-pointer .before .before .before .before .before in
-    let at-past5 = at-zero-indexed3 .before .before .before .before .before in
-    let at-m8 = at-past5 .before .before .before in (
-      omega arith,
+    let at-from-indirect-x = c .before .before .before .before in
+    let at-m8 = at-from-indirect-x .before .before .before .before in (
+      at-from-indirect-x .from-indirect-x .ensures .0,
       λ s h.
-          let e = at-past5 .past5 .ensures s (h .stands .bytes) (h .here) in
-          let t = stands-past 2 h e in
-          rw (at-m8 .m8 .given .1)
-          (reaches (two e)
-          (then-call _ (rw (t .bytes) at (at-zero-indexed3 .zero-indexed3 .ensures _ t))
-          (then-call _ (at-pointer .pointer .ensures _ t) (at-read5 .read5 .ensures _ execution t)))),
+          let found = at-from-indirect-x .from-indirect-x .ensures .1 s (h .stands) (h .here) in
+          rw (at-m8 .m8 .given .1) found,
     )
 
 returns-9 : tie.Need-returns-9
-unfolding load recordOf
+unfolding load
 returns-9 c =
-    let at-load-indexed3 = c .before .before in
-    let at-pointer2 = at-load-indexed3 .before .before .before .before .before in
-    let at-past6 = at-pointer2 .before .before .before .before .before in
-    let at-m9 = at-past6 .before .before .before in (
-      omega (arith, at-load-indexed3 .load-indexed3 .ensures .0),
+    let at-from-indirect-y = c .before .before .before .before in
+    let at-wiring-of = at-from-indirect-y .before .before .before in
+    let at-match = at-wiring-of .before .before in
+    let start = at-match .before .before .before .before in
+    let w = at-match .match in
+    let b = ⊎-elim {C = Behind (w .m) (w .z)} (λ l. as-execution (l .3) (l .4)) (λ l. as-indirect (l .3) (l .4)) (w .came) in
+    let same = ⊎-elim {C = w .m ≡ start .args .m} (λ l. l .3 ∙ sym (l .1 .given .1)) (λ l. l .3 ∙ sym (l .1 .given .1)) (w .came) in (
+      at-from-indirect-y .from-indirect-y .ensures .0,
       λ s h.
-          let e = at-past6 .past6 .ensures s (h .stands .bytes) (h .here) in
-          let t = stands-past 2 h e in
-          rw (at-m9 .m9 .given .1)
-          (reaches (two e)
-          (then-call _ (at-pointer2 .pointer2 .ensures _ t)
-          (rw (t .bytes) at (at-load-indexed3 .load-indexed3 .ensures .1 _ execution t)))),
-    )
-
-returns-10 : tie.Need-returns-10
-unfolding load recordOf
-returns-10 c =
-    let at-load-indexed4 = c .before .before in
-    let at-indirect = at-load-indexed4 .before .before .before in
-    let at-pointer3 = at-indirect .before .before .before .before in
-    let at-past7 = at-pointer3 .before .before .before .before .before in
-    let at-m10 = at-past7 .before .before .before in (
-      omega (arith, at-load-indexed4 .load-indexed4 .ensures .0),
-      λ s h.
-          let e = at-past7 .past7 .ensures s (h .stands .bytes) (h .here) in
-          let t = stands-past 2 h e in
-          rw (at-m10 .m10 .given .1)
-          (reaches (two e)
-          (then-call _ (at-pointer3 .pointer3 .ensures _ t)
-          (rw (t .bytes) at (at-load-indexed4 .load-indexed4 .ensures .1 _ indirect (at-indirect .indirect .ensures .1 _ t))))),
+          let there = at-wiring-of .wiring-of .ensures .1 s (h .stands) in
+          rw same at (loads-behind b (at-from-indirect-y .from-indirect-y .ensures .1 s _ (h .stands) (h .here) there)),
     )
 
 pub load-spec : {M : Type 1} → statement M
 load-spec =
     tie.close
     (tie.spec (λ c. search needs) (λ c κs. search needs) (λ c. search needs) (λ c κs. search needs) (λ c. search needs)
+    (λ c. search needs) (λ c κs. search needs) (λ c. search needs) (λ c. search needs) (λ c κs. search needs) (λ c. search needs)
     (λ c κs. search needs) (λ c. search needs) (λ c κs. search needs) (λ c. search needs) (λ c κs. search needs)
     (λ c. search needs) (λ c κs. search needs) (λ c. search needs) (λ c κs. search needs) (λ c. search needs)
-    (λ c κs. search needs) (λ c. search needs) (λ c κs. search needs) (λ c. search needs) (λ c κs. search needs)
-    (λ c κs. search needs) (λ c κs. search needs) (λ c. search needs) (λ c κs. search needs) (λ c κs. search needs)
-    (λ c. search needs) (λ c κs. search needs) (λ c. search needs) (λ c κs. search needs) (λ c κs. search needs)
-    (λ c. search needs) (λ c κs. search needs) (λ c. search needs) (λ c κs. search needs) (λ c. search needs)
-    (λ c κs. search needs) (λ c κs. search needs) (λ c κs. search needs) (λ c. search needs) (λ c κs. search needs)
-    (λ c κs. search needs) (λ c. search needs) (λ c κs. search needs) (λ c. search needs) (λ c κs. search needs)
-    (λ c κs. search needs) (λ c κs. search needs) (λ c. search needs) (λ c κs. search needs) (λ c. search needs) returns
-    (λ c. search needs) (λ c. search needs) returns-2 (λ c. search needs) (λ c. search needs) returns-3 (λ c. search needs)
-    (λ c. search needs) returns-4 (λ c. search needs) (λ c. search needs) returns-5 (λ c. search needs) (λ c. search needs) returns-6
-    (λ c. search needs) (λ c. search needs) returns-7 (λ c. search needs) (λ c. search needs) returns-8 (λ c. search needs)
-    (λ c. search needs) returns-9 (λ c. search needs) (λ c. search needs) returns-10)
+    (λ c κs. search needs) (λ c. search needs) (λ c. search needs) (λ c κs. search needs) (λ c κs. search needs)
+    (λ c. search needs) returns (λ c. search needs) (λ c. search needs) returns-2 (λ c. search needs) (λ c. search needs) returns-3
+    (λ c. search needs) (λ c. search needs) returns-4 (λ c. search needs) (λ c. search needs) returns-5 (λ c. search needs)
+    (λ c. search needs) returns-6 (λ c. search needs) (λ c. search needs) returns-7 (λ c. search needs) (λ c. search needs) returns-8
+    (λ c. search needs) (λ c. search needs) returns-9)

@@ -1,8 +1,8 @@
 use mathlib.Core.Path.{refl}
 use Rattle.processor.proofs.Banks.{in-bank}
 use borrow.Author.Needs.{needs}
-use Rattle.processor.proofs.wiring_of.Statement.{statement}
-use Rattle.processor.proofs.wiring_of.Tie as tie
+use Rattle.processor.proofs.addressing.wiring_of.Statement.{statement}
+use Rattle.processor.proofs.addressing.wiring_of.Tie as tie
 
 returns : tie.Need-returns
 returns c = (c .indirect .ensures .0, λ s h. rw (c .before .enum-told .given .1) (c .indirect .ensures .1 s h))

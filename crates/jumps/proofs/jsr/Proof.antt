@@ -4,8 +4,8 @@ use Rattle.laws.proofs.Goes.{does, ended, then-read, then-do}
 use mathlib.Core.Path.{_∙_}
 use Rattle.state.proofs.Registers.{holds, makes-pc, makes-s}
 use borrow.Author.Needs.{needs}
-use Rattle.sequence.proofs.jsr.Statement.{statement}
-use Rattle.sequence.proofs.jsr.Tie as tie
+use Rattle.jumps.proofs.jsr.Statement.{statement}
+use Rattle.jumps.proofs.jsr.Tie as tie
 
 set-pc-requires : tie.Need-set-pc-requires
 set-pc-requires c κs =

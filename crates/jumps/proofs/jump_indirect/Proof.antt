@@ -4,8 +4,8 @@ use Rattle.rules.specs.Operations.{withPc, jumpIndirect}
 use Rattle.laws.proofs.Goes.{does, ended, then-call}
 use Rattle.state.proofs.Registers.{makes-pc}
 use borrow.Author.Needs.{needs}
-use Rattle.sequence.proofs.jump_indirect.Statement.{statement}
-use Rattle.sequence.proofs.jump_indirect.Tie as tie
+use Rattle.jumps.proofs.jump_indirect.Statement.{statement}
+use Rattle.jumps.proofs.jump_indirect.Tie as tie
 
 returns : tie.Need-returns
 unfolding jumpIndirect _>>=_
