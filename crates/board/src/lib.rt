@@ -1,15 +1,11 @@
-// The functions that a blade's board calls: numbers and byte slices in, one word out.
+// The step and the run, as a blade's board calls them: numbers and byte slices in, one word out.
 
 use checks::Checked;
-use rules::AppendAnswer;
-use rules::Numbers;
-use rules::RestartAnswer;
 ghost use mathlib.Core.Path.{_≡_};
-ghost use Rattle.rules.specs.Answers.{stepWord, runWords, restartWord, appendWord};
+ghost use Rattle.rules.specs.Answers.{stepWord, runWords};
 ghost use Rattle.rules.specs.Bus.{images};
 ghost use Rattle.rules.specs.Step.{step, left, worded};
 ghost use Rattle.rules.specs.Run.{runOf};
-ghost use Rattle.rules.specs.Restart.{restart, appendAt};
 
 // "Step: 1 to 6 in order"
 #[no_mangle]
@@ -54,32 +50,4 @@ pub extern "C" fn wankitare_run(
     *steps = tally[0];
     *listed = tally[1];
     word
-}
-
-#[no_mangle]
-pub extern "C" fn wankitare_restart(file: &[u8]) -> u64
-    ensures { λ r. ⌜ r ≡ restartWord (restart (now (file .entry))) ⌝ }
-{
-    match restart::restart(file) {
-        RestartAnswer::Found { at, tail } => words::packed(Numbers {
-            number: 0,
-            small: tail,
-            large: at,
-        }),
-        RestartAnswer::NotFound(e) => words::refusal_word(e),
-    }
-}
-
-#[no_mangle]
-pub extern "C" fn wankitare_append_at(file_len: u64) -> u64
-    ensures { λ r. ⌜ r ≡ appendWord (appendAt «file_len») ⌝ }
-{
-    match restart::append_at(file_len) {
-        AppendAnswer::At(place) => words::packed(Numbers {
-            number: 0,
-            small: 0,
-            large: place,
-        }),
-        AppendAnswer::Full(e) => words::refusal_word(e),
-    }
 }

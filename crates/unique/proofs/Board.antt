@@ -1,11 +1,11 @@
--- No second word, number or buffer fits the contract of a function that the board calls.
+-- No second word, number or buffer fits the contract of the step or of the run.
 use Prim.Native.Nat.{ℕ}
-use mathlib.Core.Path.{refl, sym, ap, _∙_}
+use mathlib.Core.Path.{sym, ap, _∙_}
 use mathlib.Core.List.{List}
 use Rattle.rules.specs.Answers.{RunWords}
 use Rattle.rules.specs.Step.{Outcome}
 use Rattle.board.proofs as its
-use Rattle.unique.proofs.General.{Unique, answer}
+use Rattle.unique.proofs.General.{Unique}
 
 -- the word, the record, the image and the access buffer, each in the place of its parameter
 abbrev stepped : Outcome ℕ (List ℕ) → ℕ × (List ℕ × (List ℕ × (Unit {0} × (Unit {0} × (List ℕ × Unit {0})))))
@@ -20,9 +20,3 @@ played o = (o .answer .word, (o .state, (o .image, (tt, (o .accesses, (o .answer
 
 pub wankitare-run : Unique its.wankitare_run.Kinds.ps its.wankitare_run.Kinds.r its.wankitare_run.Reads.Post
 wankitare-run κs a x y p q = ap played (p ∙ sym q)
-
-pub wankitare-restart : Unique its.wankitare_restart.Kinds.ps its.wankitare_restart.Kinds.r its.wankitare_restart.Reads.Post
-wankitare-restart κs a x y = answer refl
-
-pub wankitare-append-at : Unique its.wankitare_append_at.Kinds.ps its.wankitare_append_at.Kinds.r its.wankitare_append_at.Reads.Post
-wankitare-append-at κs a x y = answer refl

@@ -1,8 +1,8 @@
 use mathlib.Core.Path.{sym, ap, _∙_}
 use Rattle.rules.specs.Answers.{restartWord}
 use borrow.Author.Needs.{needs}
-use Rattle.board.proofs.wankitare_restart.Statement.{statement}
-use Rattle.board.proofs.wankitare_restart.Tie as tie
+use Rattle.restart.proofs.wankitare_restart.Statement.{statement}
+use Rattle.restart.proofs.wankitare_restart.Tie as tie
 
 returns : tie.Need-returns
 returns c =

@@ -16,10 +16,10 @@ use Rattle.rules.specs.Answers.{restartWord, appendWord}
 use Rattle.rules.specs.Restart.{recordAt, restart, appendAt, Grown}
 use Rattle.laws.proofs.Restarts.{answerOf, found-place, finds-last, Written, found-written}
 use Rattle.words.proofs.Laws.{numbered}
-use Rattle.board.proofs.wankitare_restart.Kinds as kinds
-use Rattle.board.proofs.wankitare_restart.Reads as reads
-use Rattle.board.proofs.wankitare_append_at.Kinds as append-kinds
-use Rattle.board.proofs.wankitare_append_at.Reads as append-reads
+use Rattle.restart.proofs.wankitare_restart.Kinds as kinds
+use Rattle.restart.proofs.wankitare_restart.Reads as reads
+use Rattle.restart.proofs.wankitare_append_at.Kinds as append-kinds
+use Rattle.restart.proofs.wankitare_append_at.Reads as append-reads
 
 module _ (κs : Lfts 1) (a : Dens κs kinds.ps) (x : ℕ) (t : AtExit (endedOf 1 kinds.ps kinds.r) κs) where
   abbrev file : List ℕ
