@@ -8,13 +8,11 @@ use mathlib.Core.Bool.{Bool, true, false, _&&_}
 use mathlib.Core.List.{List, [], _∷_}
 use borrow.Author.Tests.{le-leb, lt-leb, lt-ltb, le-ltb, leb-true, ltb-true, ltb-false, eq-eqb, ne-eqb}
 use lib.Dec.{leb, ltb, eqb, eqb·suc-zero}
-use lib.ListN.{length, take}
-use lib.Seq.{take-length}
-use Rattle.rules.specs.Basics.{if_then_else_, all, at}
-use Rattle.rules.specs.Pages.{pageOf, kindOf, isRecord, raised, counted, sum}
+use Rattle.rules.specs.Basics.{if_then_else_, all}
+use Rattle.rules.specs.Pages.{pageOf, kindOf, isRecord, raised, counted}
 use Rattle.laws.proofs.Tests.{and-true, and-left, all-at}
-use Rattle.pages.specs.declared.Totalled.the-variants.{Sum, Passed}
-use Rattle.pages.specs.Totals.{totalOf}
+use Rattle.totals.specs.declared.Totalled.the-variants.{Sum, Passed}
+use Rattle.totals.specs.Totals.{totalOf}
 
 pub and-false : (b : Bool) → (b && false) ≡ false
 and-false true = refl
@@ -30,24 +28,6 @@ one-number a zero zero (suc d) =
 one-number a zero zero zero =
     let e : a + 256 * 0 + 65536 * 0 + 16777216 * 0 ≡ a = omega arith in
     rw (e, and-true (leb a 1), and-true (leb a 1), and-true (leb a 1))
-
-pub sum-more : (l : List ℕ) (k : ℕ) → k < length l → sum (take (suc k) l) ≡ sum (take k l) + at l k
-unfolding sum
-sum-more [] k h = absurd (omega arith)
-sum-more (x ∷ l) zero h = omega arith
-sum-more (x ∷ l) (suc k) h = let e = sum-more l k (omega arith) in omega arith
-
-pub sum-all : (l : List ℕ) (k : ℕ) → length l ≡ k → sum (take k l) ≡ sum l
-sum-all l k e = rw (← e, take-length l)
-
--- A sum in two halves, each of which may be more than 32 bits.
-module _ (high low s : ℕ) (halves : high * 4294967296 + low ≡ s) where
-  pub fits : high + low / 4294967296 < 4294967296 → Sum ((high + low / 4294967296) * 4294967296 + low % 4294967296) ≡ totalOf s
-  fits h =
-      let e : (high + low / 4294967296) * 4294967296 + low % 4294967296 ≡ s = omega arith in rw (e, lt-ltb s (2 ^ 64) (omega arith))
-
-  pub passes : 4294967296 ≤ high + low / 4294967296 → Passed ≡ totalOf s
-  passes h = rw (le-ltb s (2 ^ 64) (omega arith))
 
 -- room for n more, by what the sum is
 pub room-beside : (s t n : ℕ) → Sum t ≡ totalOf s → leb n (18446744073709551615 - t) ≡ ltb (s + n) (2 ^ 64)

@@ -3,6 +3,7 @@
 use rules::CountAnswer;
 use rules::Counting;
 use rules::Refusal;
+use totals::Totalled;
 ghost use mathlib.Core.Path.{_≡_};
 ghost use mathlib.Core.Bool.{_&&_};
 ghost use mathlib.Core.List.{List, [], _++_};
@@ -13,17 +14,8 @@ ghost use Rattle.rules.specs.Basics.{all, at};
 ghost use Rattle.rules.specs.Answers.{tested};
 ghost use Rattle.rules.specs.Pages.{isRecord, recordsIn, raised, counted, formTests, counting, fed, none, sum, countingOf};
 ghost use Rattle.laws.proofs.Counts.{Bytes};
-ghost use Rattle.pages.specs.Totals.{Counts, totalOf};
+ghost use Rattle.pages.specs.Room.{Counts};
 ghost use Rattle.pages.specs.Blocks.{refusedBy, further};
-
-// 2^32: what the two halves of a 64-bit number are parted by.
-const HALF: u64 = 4294967296;
-
-// All counts together, or that they passed 64 bits.
-pub enum Totalled {
-    Sum(u64),
-    Passed,
-}
 
 // "a record with byte 4 above 1 or bytes 5 to 7 not zero". The four are judged as one number, low byte first: so the compiler reads and
 // compares them at once.
@@ -57,34 +49,12 @@ fn are_records(list: &[u8]) -> bool
     bad == 0
 }
 
-// The sum of all counts may take 73 bits. High and low halves are summed apart, and neither sum can overflow.
-pub fn total_of(reads: &[u64], writes: &[u64]) -> Totalled
-    requires { ⌜ (length (now reads) ≡ 256) × (length (now writes) ≡ 256) ⌝ }
-    ensures { λ r. ⌜ r ≡ totalOf (sum (now (reads .entry)) + sum (now (writes .entry))) ⌝ }
-{
-    let mut high: u64 = 0;
-    let mut low: u64 = 0;
-    let mut k = 0;
-    while k < 256 {
-        let r = reads[k];
-        let w = writes[k];
-        high = high + r / HALF + w / HALF;
-        low = low + r % HALF + w % HALF;
-        k += 1;
-    }
-    let top = high + low / HALF;
-    if top < HALF {
-        return Totalled::Sum(top * HALF + low % HALF);
-    }
-    Totalled::Passed
-}
-
 // "a total of all counts that would pass 64 bits": whether n more can be counted.
 fn room_for(reads: &[u64], writes: &[u64], n: u64) -> bool
     requires { ⌜ (length (now reads) ≡ 256) × (length (now writes) ≡ 256) ⌝ }
     ensures { λ r. ⌜ r ≡ ltb (sum (now (reads .entry)) + sum (now (writes .entry)) + n) (2 ^ 64) ⌝ }
 {
-    match total_of(reads, writes) {
+    match totals::total_of(reads, writes) {
         Totalled::Sum(total) => n <= u64::MAX - total,
         Totalled::Passed => false,
     }

@@ -15,8 +15,8 @@ use Rattle.rules.specs.Basics.{if_then_else_, at}
 use Rattle.rules.specs.Text.{hex, spaced, each, numberLine, refusalLine}
 use Rattle.rules.specs.Pages.{sum, pageLine, trafficLine, reportText}
 use Rattle.laws.proofs.Tests.{if-case}
-use Rattle.pages.specs.declared.Totalled.the-variants.{Sum, Passed}
-use Rattle.pages.specs.Totals.{totalOf}
+use Rattle.totals.specs.declared.Totalled.the-variants.{Sum, Passed}
+use Rattle.totals.specs.Totals.{totalOf}
 use Rattle.characters.specs.Shown.{Puts, Shows}
 use Rattle.characters.proofs.Laws.{spaced-most, number-most, puts-piece, puts-append, puts-shown}
 

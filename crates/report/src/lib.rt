@@ -1,9 +1,9 @@
 // What the page report prints of the counts.
 
-use pages::Totalled;
 use rules::CountAnswer;
 use rules::Counting;
 use rules::Refusal;
+use totals::Totalled;
 ghost use Prim.Native.Nat.{_+_, _≤_};
 ghost use mathlib.Core.Path.{_≡_};
 ghost use mathlib.Core.List.{[]};
@@ -68,7 +68,7 @@ fn put_counts(text: &mut [u8], reads: &[u64], writes: &[u64]) -> usize
     requires { ⌜ (11543 ≤ length (now text)) × ((length (now reads) ≡ 256) × (length (now writes) ≡ 256)) ⌝ }
     ensures { λ r. ⌜ Shows (reportText Counted (now (reads .entry)) (now (writes .entry))) r (now (text .entry)) (now (text .exit)) ⌝ }
 {
-    match pages::total_of(reads, writes) {
+    match totals::total_of(reads, writes) {
         Totalled::Sum(total) => {
             let at = put_pages(text, reads, writes);
             characters::put_number(text, at, b'T', total)

@@ -27,5 +27,6 @@ pub mod Stacking
 pub mod State
 pub mod Step
 pub mod Text
+pub mod Totals
 pub mod Wiring
 pub mod Words

@@ -14,9 +14,6 @@ placed k = (k .answer, (k .reads, (k .writes, (tt, tt))))
 pub feed : Unique its.feed.Kinds.ps its.feed.Kinds.r its.feed.Reads.Post
 feed κs a x y p q = ap placed (p ∙ sym q)
 
-pub total-of : Unique its.total_of.Kinds.ps its.total_of.Kinds.r its.total_of.Reads.Post
-total-of κs a x y = answer refl
-
 pub none : Unique its.none.Kinds.ps its.none.Kinds.r its.none.Reads.Post
 none κs a x y = answer refl
 

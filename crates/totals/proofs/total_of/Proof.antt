@@ -7,9 +7,9 @@ use borrow.Author.Needs.{needs}
 use denote.Ref.{now}
 use lib.ListN.{length, take}
 use Rattle.rules.specs.Pages.{sum}
-use Rattle.pages.proofs.Counting.{sum-more, sum-all, fits, passes}
-use Rattle.pages.proofs.total_of.Statement.{statement}
-use Rattle.pages.proofs.total_of.Tie as tie
+use Rattle.totals.proofs.Sums.{sum-more, sum-all, fits, passes}
+use Rattle.totals.proofs.total_of.Statement.{statement}
+use Rattle.totals.proofs.total_of.Tie as tie
 
 record Summed (reads writes : List ℕ) (high low k : ℕ) : Type 0 where
   within : k ≤ 256
