@@ -183,7 +183,7 @@ fn at_absolute_indexed(
     indexed(state, w, image, list, 3, a, i)
 }
 
-// By (z,X), as a load does too.
+// By (z,X).
 fn at_indirect_x(z: u8, pc: u16, state: &mut [u8], w: Wiring, image: &[u8], list: &mut [u8]) -> u16
     requires { ⌜ Ready w (length (now state)) (length (now image)) (length (now list)) ⌝ }
     ensures { λ r. ⌜ ((s : State) → Stands execution s (now (state .entry)) w → pc ≡ s .cpu .pc →
