@@ -129,8 +129,8 @@ one e = record { bytes = e; goes = ended }
 pub two : {s : State} {i l r′ : List ℕ} → r′ ≡ recordOf (pastIn 2 s) → Opens 2 s i l r′ l
 two e = record { bytes = e; goes = ended }
 
-pub stands-past : {κ : Bank} {s : State} {r r′ : List ℕ} {w : Wiring} (n : ℕ) → Stands κ s r w → r′ ≡ recordOf (pastIn n s) →
-    Stands κ (pastIn n s) r′ w
+pub stands-past : {κ : Bank} {s : State} {r r′ : List ℕ} {w : Wiring} (n : ℕ) → Stands κ s r w →
+    r′ ≡ recordOf (pastIn n s) → Stands κ (pastIn n s) r′ w
 stands-past n h e = record { bytes = e; wired = h .wired }
 
 -- what follows what a mode found
@@ -143,12 +143,14 @@ behind-call n pc t f = go (eqb n 3)
     go false = refl
 
 pub reaches-on : (n : ℕ) {t : Cycles ℕ} {s : State} {i l r₁ l₁ l′ : List ℕ} {v v′ k k′ : ℕ} (g : ℕ → Cycles ℕ) →
-    Reaches n t s i l v k r₁ l₁ → Goes (g v) k (s .bus) i l₁ v′ k′ (s .bus) i l′ → Reaches n (t >>= g) s i l v′ k′ r₁ l′
+    Reaches n t s i l v k r₁ l₁ → Goes (g v) k (s .bus) i l₁ v′ k′ (s .bus) i l′ →
+    Reaches n (t >>= g) s i l v′ k′ r₁ l′
 reaches-on n {t} {s} g o d =
     record { bytes = o .bytes; goes = rw (behind-call n (s .cpu .pc) t g) (then-call g (o .goes) d) }
 
 pub reached : (n : ℕ) {t : Cycles ℕ} {s : State} {i l r₁ l₁ r′ i′ l′ : List ℕ} {v k m : ℕ} (g : ℕ → Cycles Cpu) →
-    Reaches n t s i l v k r₁ l₁ → Does (g v) k (pastIn n s) i l₁ m r′ i′ l′ → Does (behind n (s .cpu .pc) (t >>= g)) 2 s i l m r′ i′ l′
+    Reaches n t s i l v k r₁ l₁ → Does (g v) k (pastIn n s) i l₁ m r′ i′ l′ →
+    Does (behind n (s .cpu .pc) (t >>= g)) 2 s i l m r′ i′ l′
 reached n {t} {s} g o d =
     rw (behind-call n (s .cpu .pc) t g)
     (record { cpu = d .cpu; bus = d .bus; bytes = d .bytes; goes = then-call g (o .goes) (d .goes) })

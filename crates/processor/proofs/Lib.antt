@@ -1,4 +1,3 @@
-pub mod Behind
 pub mod Back
 pub mod Plain
 pub mod Fetches
@@ -6,3 +5,4 @@ pub mod Lays
 pub mod Executes
 pub mod Conditions
 pub mod Banks
+pub mod Through

@@ -18,7 +18,7 @@ use Rattle.rules.specs.Bus.{world, images, look}
 use Rattle.rules.specs.Record.{recordOf}
 use Rattle.rules.specs.Addressing.{get, pointer, zeroIndexed, indexed, loadIndexed}
 use Rattle.rules.specs.Operations.{withPc, perform}
-use Rattle.laws.specs.Goes.{Goes}
+use Rattle.laws.specs.Goes.{Goes, Does}
 use Rattle.laws.specs.States.{moved}
 use Rattle.wiring.specs.declared.Wiring.{Wiring}
 use Rattle.wiring.specs.Wiring.{Stands}
@@ -71,6 +71,10 @@ begunBy n = if eqb n 3 then 3 else 2
 unfoldable pub rest : Instruction → Cpu → Cycles Cpu
 rest i c = behind (sizeIn 2 i) (c .pc) (perform i (past (sizeIn 2 i) c))
 
+-- an instruction of one byte that makes no access of its own leaves the bytes r′ of r
+abbrev pub Alone : Instruction → List ℕ → ℕ → List ℕ → Type 0
+Alone j r pc r′ = (s : State) (i l : List ℕ) → r ≡ recordOf s → pc ≡ s .cpu .pc → Does (rest j (s .cpu)) 2 s i l 2 r′ i l
+
 -- the third byte at PC
 abbrev pub thirdAt : State → List ℕ → ℕ
 thirdAt s i = look images (world (s .bus) i) execution (sum16 (s .cpu .pc) 2)
@@ -86,7 +90,7 @@ pub record Opens (n : ℕ) (s : State) (i l r′ l′ : List ℕ) : Type 0 where
   pub bytes : r′ ≡ recordOf (pastIn n s)
   pub goes : Goes {A = Unit {0}} (behind n (s .cpu .pc) (done tt)) 2 (s .bus) i l tt (begunBy n) (s .bus) i l′
 
--- n bytes are fetched, PC is behind them, and the accesses t, of which k were made then, found v
+-- n bytes are fetched, PC is behind them, and the accesses t have found v; the step has then made k
 pub record Reaches (n : ℕ) (t : Cycles ℕ) (s : State) (i l : List ℕ) (v k : ℕ) (r′ l′ : List ℕ) : Type 0 where
   pub bytes : r′ ≡ recordOf (pastIn n s)
   pub goes : Goes (behind n (s .cpu .pc) t) 2 (s .bus) i l v k (s .bus) i l′
@@ -95,9 +99,9 @@ pub record Reaches (n : ℕ) (t : Cycles ℕ) (s : State) (i l : List ℕ) (v k 
 abbrev pub loadZeroIndexed : ℕ → ℕ → Cycles ℕ
 loadZeroIndexed z i = zeroIndexed z i >>= get
 
--- a load, and the place of a store, by (z),Y in a bank
-abbrev pub loadBehind : Bank → ℕ → ℕ → Cycles ℕ
-loadBehind κ z i = pointer z >>= λ a. loadIndexed κ a i
+-- a load, and the place of a store, by (z),Y: through a pointer, in a bank
+abbrev pub loadThrough : Bank → ℕ → ℕ → Cycles ℕ
+loadThrough κ z i = pointer z >>= λ a. loadIndexed κ a i
 
-abbrev pub placeBehind : Bank → ℕ → ℕ → Cycles ℕ
-placeBehind κ z i = pointer z >>= λ a. indexed κ a i
+abbrev pub placeThrough : Bank → ℕ → ℕ → Cycles ℕ
+placeThrough κ z i = pointer z >>= λ a. indexed κ a i

@@ -18,7 +18,7 @@ ghost use mathlib.Core.List.{List};
 ghost use Prim.Native.Nat.{ℕ};
 ghost use Rattle.laws.specs.Sizes.{modeSize};
 ghost use Rattle.processor.specs.Rest.{highIn, past, pastIn, Fetched, Opens, Reaches};
-ghost use Rattle.processor.specs.Rest.{loadZeroIndexed, loadBehind, placeBehind};
+ghost use Rattle.processor.specs.Rest.{loadZeroIndexed, loadThrough, placeThrough};
 ghost use Rattle.laws.proofs.Lengths.{placeMost};
 
 // A byte that was found, and the accesses made so far.
@@ -209,7 +209,7 @@ fn at_indirect_y(
         × Ready there (length (now state)) (length (now image)) (length (now list)) ⌝ }
     ensures { λ r. ⌜ ((s : State) (κ : Bank) → Stands execution s (now (state .entry)) w → pc ≡ s .cpu .pc →
         Stands κ s (now (state .entry)) there →
-        Reaches 2 (placeBehind κ z (s .cpu .y)) s (now (image .entry)) (now (list .entry)) r 5
+        Reaches 2 (placeThrough κ z (s .cpu .y)) s (now (image .entry)) (now (list .entry)) r 5
         (now (state .exit)) (now (list .exit))) ⌝ }
 {
     past(2, pc, state);
@@ -312,7 +312,7 @@ fn from_indirect_y(
         × Ready there (length (now state)) (length (now image)) (length (now list)) ⌝ }
     ensures { λ r. ⌜ (r .count ≤ 7) × ((s : State) (κ : Bank) → Stands execution s (now (state .entry)) w → pc ≡ s .cpu .pc →
         Stands κ s (now (state .entry)) there →
-        Reaches 2 (loadBehind κ z (s .cpu .y)) s (now (image .entry)) (now (list .entry)) (r .value) (r .count)
+        Reaches 2 (loadThrough κ z (s .cpu .y)) s (now (image .entry)) (now (list .entry)) (r .value) (r .count)
         (now (state .exit)) (now (list .exit))) ⌝ }
 {
     past(2, pc, state);

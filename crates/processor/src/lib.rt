@@ -28,7 +28,7 @@ ghost use Rattle.wiring.specs.Wiring.{Wired, Stands, Ready};
 ghost use Rattle.laws.specs.Goes.{Goes, Does};
 ghost use Rattle.processor.specs.Begun.{short};
 ghost use Rattle.processor.specs.Conditions.{weightOf, senseOf};
-ghost use Rattle.processor.specs.Rest.{highIn, highOf, past, rest, Fetched};
+ghost use Rattle.processor.specs.Rest.{highIn, highOf, past, rest, Alone, Fetched};
 ghost use Rattle.processor.specs.Laid.{storedAt, rewritten, changedAt, Lays};
 ghost use Rattle.processor.specs.Executed.{Begins, Executed};
 ghost use Rattle.processor.specs.Found.{Found, begun};
@@ -225,8 +225,7 @@ fn read_into(
 // ASL, ROL, LSR, ROR of A.
 fn accumulated(o: Changing, pc: u16, state: &mut [u8])
     requires { ⌜ length (now state) ≡ 16 ⌝ }
-    ensures { λ r. ⌜ ((s : State) (i l : List ℕ) → now (state .entry) ≡ recordOf s → pc ≡ s .cpu .pc →
-        Does (rest (Accumulator o) (s .cpu)) 2 s i l 2 (now (state .exit)) i l) ⌝ }
+    ensures { λ r. ⌜ Alone (Accumulator o) (now (state .entry)) pc (now (state .exit)) ⌝ }
 {
     addressing::past(1, pc, state);
     let a = state[state::A];
@@ -236,8 +235,7 @@ fn accumulated(o: Changing, pc: u16, state: &mut [u8])
 
 fn implied(o: Internal, pc: u16, state: &mut [u8])
     requires { ⌜ length (now state) ≡ 16 ⌝ }
-    ensures { λ r. ⌜ ((s : State) (i l : List ℕ) → now (state .entry) ≡ recordOf s → pc ≡ s .cpu .pc →
-        Does (rest (Implied o) (s .cpu)) 2 s i l 2 (now (state .exit)) i l) ⌝ }
+    ensures { λ r. ⌜ Alone (Implied o) (now (state .entry)) pc (now (state .exit)) ⌝ }
 {
     addressing::past(1, pc, state);
     internal::inside(o, state)
@@ -245,8 +243,7 @@ fn implied(o: Internal, pc: u16, state: &mut [u8])
 
 fn txs(pc: u16, state: &mut [u8])
     requires { ⌜ length (now state) ≡ 16 ⌝ }
-    ensures { λ r. ⌜ ((s : State) (i l : List ℕ) → now (state .entry) ≡ recordOf s → pc ≡ s .cpu .pc →
-        Does (rest Txs (s .cpu)) 2 s i l 2 (now (state .exit)) i l) ⌝ }
+    ensures { λ r. ⌜ Alone Txs (now (state .entry)) pc (now (state .exit)) ⌝ }
 {
     addressing::past(1, pc, state);
     let x = state[state::X];
@@ -255,8 +252,7 @@ fn txs(pc: u16, state: &mut [u8])
 
 fn cli(pc: u16, state: &mut [u8])
     requires { ⌜ length (now state) ≡ 16 ⌝ }
-    ensures { λ r. ⌜ ((s : State) (i l : List ℕ) → now (state .entry) ≡ recordOf s → pc ≡ s .cpu .pc →
-        Does (rest Cli (s .cpu)) 2 s i l 2 (now (state .exit)) i l) ⌝ }
+    ensures { λ r. ⌜ Alone Cli (now (state .entry)) pc (now (state .exit)) ⌝ }
 {
     addressing::past(1, pc, state);
     let f = state::flags_of(state);
