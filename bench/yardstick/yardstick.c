@@ -186,15 +186,16 @@ INLINE uint16_t zero_indexed(struct core *c, uint8_t index)
     return (uint8_t)(base + index);
 }
 
-INLINE uint16_t pointer(struct core *c, uint8_t at)
+/* Both bytes lie in one page. */
+INLINE uint16_t pointer(struct core *c, uint16_t at)
 {
     uint8_t low = read(c, at);
-    return word(low, read(c, (uint8_t)(at + 1)));
+    return word(low, read(c, word((uint8_t)(at + 1), (uint8_t)(at >> 8))));
 }
 
 INLINE uint16_t indexed_indirect(struct core *c)
 {
-    return pointer(c, (uint8_t)zero_indexed(c, c->record[X]));
+    return pointer(c, zero_indexed(c, c->record[X]));
 }
 
 INLINE uint16_t indirect(struct core *c)
@@ -409,7 +410,6 @@ INLINE void pull_p(struct core *c)
 INLINE int execute(struct core *c, uint8_t opcode)
 {
     uint8_t low;
-    uint16_t at;
 
     switch (opcode) {
     READ_A(0x00, ora)
@@ -487,9 +487,7 @@ INLINE int execute(struct core *c, uint8_t opcode)
         c->pc = absolute(c);
         break;
     case 0x6C:
-        at = absolute(c);
-        low = read(c, at);
-        c->pc = word(low, read(c, (uint16_t)(at + 1)));
+        c->pc = pointer(c, absolute(c));
         break;
     case 0x20: /* the pushes come before the high operand is read */
         low = fetch(c);

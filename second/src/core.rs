@@ -140,7 +140,7 @@ impl<'a> Core<'a> {
         self.bus.write(address, value);
     }
 
-    pub fn read_word(&mut self, address: u16) -> u16 {
+    fn read_word(&mut self, address: u16) -> u16 {
         let low = self.read(address);
         let high = self.read(address.wrapping_add(1));
         u16::from_le_bytes([low, high])

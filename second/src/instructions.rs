@@ -82,7 +82,7 @@ impl<'a> Core<'a> {
             IndirectX => {
                 let unindexed = self.fetch();
                 self.read(u16::from(unindexed));
-                plain(self.pointer(unindexed.wrapping_add(self.x)))
+                plain(self.pointer(u16::from(unindexed.wrapping_add(self.x))))
             }
             IndirectY => self.indirect_y(),
             BankedY => {
@@ -101,13 +101,14 @@ impl<'a> Core<'a> {
 
     fn indirect_y(&mut self) -> Place {
         let z = self.fetch();
-        indexed(self.pointer(z), self.y)
+        indexed(self.pointer(u16::from(z)), self.y)
     }
 
-    /// Both bytes lie in page zero.
-    fn pointer(&mut self, z: u8) -> u16 {
-        let low = self.read(u16::from(z));
-        let high = self.read(u16::from(z.wrapping_add(1)));
+    /// Both bytes lie in one page: those of (z,X) and (z),Y in page zero, those of JMP (80FF) at 80FF and 8000.
+    fn pointer(&mut self, at: u16) -> u16 {
+        let [first, page] = at.to_le_bytes();
+        let low = self.read(at);
+        let high = self.read(u16::from_le_bytes([first.wrapping_add(1), page]));
         u16::from_le_bytes([low, high])
     }
 
@@ -277,10 +278,9 @@ impl<'a> Core<'a> {
         self.pc = self.fetch_word();
     }
 
-    /// The high byte comes from the next location, in the next page after a pointer at a page's end.
     fn jmp_indirect(&mut self) {
-        let pointer = self.fetch_word();
-        self.pc = self.read_word(pointer);
+        let at = self.fetch_word();
+        self.pc = self.pointer(at);
     }
 
     /// The pushes come before the high operand is read, and may have changed it.

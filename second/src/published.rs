@@ -2,7 +2,7 @@
 
 mod case;
 
-use crate::bus::{access, ACCESS, MOST_ACCESSES};
+use crate::bus::{ACCESS, MOST_ACCESSES};
 use crate::compare::first_difference;
 use crate::cores::Tested;
 use crate::json;
@@ -10,10 +10,6 @@ use crate::opcodes::decode;
 use crate::pair::{Lent, Pair};
 use case::{list, Case};
 
-const JMP_INDIRECT: u8 = 0x6C;
-/// The cycle of JMP (a) that reads the pointer's second byte, and the byte of a record that it goes to.
-const SECOND_READ: usize = 4;
-const PC_HIGH: usize = 7;
 const RECORD: [&str; 16] = [
     "part", "A", "X", "Y", "S", "P", "PC low", "PC high", "byte 8", "byte 9", "byte 10", "byte 11",
     "cycles", "cycles", "cycles", "cycles",
@@ -24,8 +20,6 @@ enum Kind {
     Agrees,
     /// An undefined opcode.
     Refused,
-    /// JMP (a) at a page's end.
-    Differs,
 }
 
 /// What a step must answer and leave.
@@ -36,23 +30,22 @@ struct Wanted {
     image: Vec<u8>,
 }
 
-/// True where every case of every file is one of the three kinds. A file is left at its first case that is none.
+/// True where every case of every file agrees or is refused as it must be. A file is left at its first case that does neither.
 pub fn published(core: Tested, files: &[String]) -> bool {
-    let (mut counts, mut failed) = ([0_u64; 3], 0);
+    let (mut counts, mut failed) = ([0_u64; 2], 0);
     for file in files {
         if let Err(why) = play_file(core, file, &mut counts) {
             println!("{}: {}", file, why);
             failed += 1;
         }
     }
-    let [agree, refused, differ] = counts;
+    let [agree, refused] = counts;
     println!(
-        "{} files, {} cases: {} agree, {} refused as document 01 says, {} differ where document 01 differs",
+        "{} files, {} cases: {} agree, {} refused as document 01 says",
         files.len(),
-        agree + refused + differ,
+        agree + refused,
         agree,
-        refused,
-        differ
+        refused
     );
     if failed > 0 {
         println!("{} files failed", failed);
@@ -60,7 +53,7 @@ pub fn published(core: Tested, files: &[String]) -> bool {
     failed == 0
 }
 
-fn play_file(core: Tested, file: &str, counts: &mut [u64; 3]) -> Result<(), String> {
+fn play_file(core: Tested, file: &str, counts: &mut [u64; 2]) -> Result<(), String> {
     let text = std::fs::read_to_string(file).map_err(|why| why.to_string())?;
     let value = json::read(&text)?;
     let cases = list(&value)?;
@@ -83,16 +76,12 @@ fn play(core: Tested, case: &Case) -> Result<Kind, String> {
         Some(_) => (Kind::Agrees, told(case, &image)),
         None => (Kind::Refused, refused(case, &image, opcode)),
     };
-    let otherwise = by_document_01(case, &image);
-
     let mut pair = Pair::new(core, case.before.record, image, MOST_ACCESSES * ACCESS);
     let word = pair.step()?;
     pair.compare_images()?;
-    let difference = |wanted| difference(word, &pair.theirs, wanted);
-    match (difference(&wanted), otherwise) {
-        (None, _) => Ok(kind),
-        (_, Some(otherwise)) if difference(&otherwise).is_none() => Ok(Kind::Differs),
-        (Some(why), _) => Err(why),
+    match difference(word, &pair.theirs, &wanted) {
+        None => Ok(kind),
+        Some(why) => Err(why),
     }
 }
 
@@ -119,26 +108,6 @@ fn refused(case: &Case, before: &[u8], opcode: u8) -> Wanted {
         list: Vec::new(),
         image: before.to_vec(),
     }
-}
-
-/// The one difference that is known. Where the pointer of JMP (a) is the last byte of a page, the published parts read its
-/// second byte at that page's first location, and document 01 at the next one. A case that has the published read as its
-/// fifth cycle and jumps by it is answered here with document 01's in its place; all else stays as the case says.
-fn by_document_01(case: &Case, image: &[u8]) -> Option<Wanted> {
-    let at = |address: u16| image[usize::from(address)];
-    let pc = case.before.pc();
-    let pointer = u16::from_le_bytes([at(pc.wrapping_add(1)), at(pc.wrapping_add(2))]);
-    let (first, next) = (pointer & 0xFF00, pointer.wrapping_add(1));
-    let is_published = at(pc) == JMP_INDIRECT
-        && pointer & 0xFF == 0xFF
-        && case.list.get(SECOND_READ) == Some(&access(0, first, at(first), 0))
-        && case.after.record[PC_HIGH] == at(first);
-    is_published.then(|| {
-        let mut wanted = told(case, image);
-        wanted.list[SECOND_READ] = access(0, next, at(next), 0);
-        wanted.record[PC_HIGH] = at(next);
-        wanted
-    })
 }
 
 /// The first thing that is not as wanted.

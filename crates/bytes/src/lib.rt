@@ -1,7 +1,8 @@
-// Addresses and their two bytes, where a branch goes, places in the stack's page.
+// Addresses and their two bytes, a place in the same page, where a branch goes, places in the stack's page.
 
 ghost use mathlib.Core.Path.{_≡_};
 ghost use Rattle.rules.specs.Basics.{address};
+ghost use Rattle.rules.specs.Addressing.{oldPage};
 ghost use Rattle.rules.specs.Operations.{target, stack, down};
 
 // An address of its low and its high byte.
@@ -9,6 +10,16 @@ pub fn join(low: u8, high: u8) -> u16
     ensures { λ r. ⌜ r ≡ address low high ⌝ }
 {
     high as u16 * 256 + low as u16
+}
+
+// "the old page with the summed low byte"
+pub fn old_page(a: u16, i: u8) -> u16
+    ensures { λ r. ⌜ r ≡ oldPage a i ⌝ }
+{
+    join(
+        std::num::wrapping_add_u8((a % 256) as u8, i),
+        (a / 256) as u8,
+    )
 }
 
 // Where a branch goes: the next instruction's address, and a signed offset. `up` is that offset plus 128, `back` how far it leads back.

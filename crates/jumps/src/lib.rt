@@ -23,14 +23,14 @@ pub fn jsr(low: u8, pc: u16, state: &mut [u8], w: Wiring, image: &mut [u8], list
     state::set_pc(state, bytes::join(low, high));
 }
 
-// "JMP (a): two operands, pointer, and the next location"
+// "JMP (a): two operands, pointer"; document 02: "the second pointer byte is read in the same page, low byte wrapped"
 pub fn jump_indirect(a: u16, state: &mut [u8], w: Wiring, image: &[u8], list: &mut [u8])
     requires { ⌜ Ready w (length (now state)) (length (now image)) (length (now list)) ⌝ }
     ensures { λ r. ⌜ ((s : State) → Stands execution s (now (state .entry)) w →
         Does (jumpIndirect a (s .cpu)) 3 s (now (image .entry)) (now (list .entry)) 5 (now (state .exit)) (now (image .entry))
         (now (list .exit))) ⌝ }
 {
-    let next = std::num::wrapping_add_u16(a, 1);
+    let next = bytes::old_page(a, 1);
     let to = reads::word_at(state, w, image, list, 3, a, next);
     state::set_pc(state, to);
 }

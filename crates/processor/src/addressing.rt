@@ -10,7 +10,7 @@ ghost use Rattle.rules.specs.declared.State.{State};
 ghost use Rattle.rules.specs.declared.Mode.the-variants.{IndirectX};
 ghost use Rattle.rules.specs.Cycles.{Bank, execution};
 ghost use Rattle.rules.specs.Basics.{address};
-ghost use Rattle.rules.specs.Addressing.{bankOf, get, oldPage, pointer, zeroIndexed, loadIndexed, indexed, load, place};
+ghost use Rattle.rules.specs.Addressing.{bankOf, get, pointer, zeroIndexed, loadIndexed, indexed, load, place};
 ghost use Rattle.wiring.specs.Wiring.{Stands, Ready};
 ghost use Rattle.laws.specs.Goes.{Goes};
 ghost use Rattle.rules.specs.Record.{recordOf};
@@ -64,16 +64,6 @@ fn third(high: u8, pc: u16, state: &mut [u8], w: Wiring, list: &mut [u8])
     past(3, pc, state);
 }
 
-// "the old page with the summed low byte"
-fn old_page(a: u16, i: u8) -> u16
-    ensures { λ r. ⌜ r ≡ oldPage a i ⌝ }
-{
-    bytes::join(
-        std::num::wrapping_add_u8((a % 256) as u8, i),
-        (a / 256) as u8,
-    )
-}
-
 // "pointer low, high (both in page zero)"
 fn pointer(state: &[u8], w: Wiring, image: &[u8], list: &mut [u8], k: usize, z: u8) -> u16
     requires { ⌜ (k < 6) × Ready w (length (now state)) (length (now image)) (length (now list)) ⌝ }
@@ -92,7 +82,7 @@ fn indexed(state: &[u8], w: Wiring, image: &[u8], list: &mut [u8], k: usize, a: 
         Goes (indexed κ a i) k (s .bus) (now (image .entry)) (now (list .entry)) r (k + 1) (s .bus) (now (image .entry))
         (now (list .exit))) ⌝ }
 {
-    reads::read(state, w, image, list, k, old_page(a, i));
+    reads::read(state, w, image, list, k, bytes::old_page(a, i));
     std::num::wrapping_add_u16(a, i as u16)
 }
 
@@ -111,7 +101,7 @@ fn load_indexed(
         Goes (loadIndexed κ a i) k (s .bus) (now (image .entry)) (now (list .entry)) (r .value) (r .count) (s .bus) (now (image .entry))
         (now (list .exit))) ⌝ }
 {
-    let near = old_page(a, i);
+    let near = bytes::old_page(a, i);
     let sum = std::num::wrapping_add_u16(a, i as u16);
     let first = reads::read(state, w, image, list, k, near);
     if sum / 256 == a / 256 {

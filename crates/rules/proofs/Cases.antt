@@ -1,5 +1,5 @@
 -- Further cases, each of a sentence that no starred example tells from a likely misreading.
-use Prim.Native.Nat.{ℕ, _+_, _*_}
+use Prim.Native.Nat.{ℕ, _+_, _*_, _/_, _%_}
 use mathlib.Core.Path.{_≡_, refl}
 use mathlib.Core.Bool.{Bool, _&&_}
 use mathlib.Core.List.{List, [], _∷_, _++_, map}
@@ -23,6 +23,12 @@ pcIs o low high = same (take 2 (drop 6 (o .state))) (low ∷ high ∷ [])
 -- X and Y after a step
 abbrev xyAre : Outcome StepAnswer Chart → ℕ → ℕ → Bool
 xyAre o x y = same (take 2 (drop 2 (o .state))) (x ∷ y ∷ [])
+
+-- JMP (a) on each part, in 5 cycles, by a pointer whose bytes are at these places
+abbrev jumpsBy : ℕ → ℕ → Bool
+jumpsBy one two = same (failing 0 (map (λ part. (let o = runs (state part 7 0 0xFF 0x20 0x9000) (zeros 1
+    from 0x9000 holds (0x6C ∷ one % 256 ∷ one / 256 ∷ []) from one holds (0x34 ∷ []) from two holds (0x12 ∷ [])) in
+    results o 5 7 0xFF 0x20 && reads o 3 one 0 0x34 && reads o 4 two 0 0x12 && pcIs o 0x34 0x12)) (2 ∷ 8 ∷ 9 ∷ []))) []
 
 abbrev steps : List Bool
 steps =
@@ -73,10 +79,8 @@ steps =
     ∷ (let o = on 7 0 0xFF 0x20 (0x00 ∷ []) in results o 7 7 0xFC 0x24 && writes o 3 0x01FE 0 0x02 && writes o 4 0x01FD 0 0x30
     && reads o 5 0xFFFE 0 0)
     ∷ writes (on 7 0 0xFF 0x24 (0x08 ∷ [])) 2 0x01FF 0 0x34
-    -- 21 JMP (80FF) takes its high byte from "the next location"
-    ∷ pcIs (runs (state 2 0 0 0 0x20 0x8000)
-    (zeros 1 from 0x8000 holds (0x6C ∷ 0xFF ∷ 0x80 ∷ []) from 0x80FF holds (0x34 ∷ 0x12 ∷ [])))
-    0x34 0x12
+    -- 21 JMP (a): "the second pointer byte is read in the same page, low byte wrapped", after 10FF at 1000, after 80FE at 80FF
+    ∷ (jumpsBy 0x10FF 0x1000 && jumpsBy 0x80FF 0x8000 && jumpsBy 0x80FE 0x80FF)
     -- 22 JSR at 01FD, S = FF, reads its high operand after the pushes
     ∷ reads (runs (state 2 0 0 0xFF 0x20 0x01FD) (zeros 1 from 0x01FD holds (0x20 ∷ 0x34 ∷ 0x12 ∷ []))) 5 0x01FF 0 0x01
     -- 23 RTS reads where it returns to, and PC is one more; RTI goes there itself
@@ -110,14 +114,14 @@ steps =
     ∷ same (drop 12 (runs (take 12 (state 2 0 0 0 0x20 0x8000) ++ 0xFF ∷ 4 ∷ 3 ∷ 1 ∷ [])
     (zeros 1 from 0x8000 holds (0xEA ∷ [])) .state))
     (1 ∷ 5 ∷ 3 ∷ 1 ∷ [])
-    -- 40 sums past FFFF wrap: NOP at FFFF; LDA FFFF,X, X = 1; BNE at FFFD to 0000, and at 0000 to FFFF; JMP (FFFF)
+    -- 40 sums past FFFF wrap: NOP at FFFF; LDA FFFF,X, X = 1; BNE at FFFD to 0000, and at 0000 to FFFF; JMP (FFFF) stays
     ∷ (let o = runs (state 2 0 0 0 0x20 0xFFFF) (zeros 1 from 0xFFFF holds (0xEA ∷ [])) in reads o 1 0x0000 0 0 && pcIs o 0x00 0x00)
     ∷ (let o = on 0 1 0 0x20 (0xBD ∷ 0xFF ∷ 0xFF ∷ []) in reads o 3 0xFF00 0 0 && reads o 4 0x0000 0 0)
     ∷ (let o = runs (state 2 0 0 0 0x20 0xFFFD) (zeros 1 from 0xFFFD holds (0xD0 ∷ 0x01 ∷ [])) in reads o 3 0xFF00 0 0
     && pcIs o 0x00 0x00)
     ∷ (let o = runs (state 2 0 0 0 0x20 0x0000) (zeros 1 from 0x0000 holds (0xD0 ∷ 0xFD ∷ [])) in reads o 3 0x00FF 0 0
     && pcIs o 0xFF 0xFF)
-    ∷ (let o = on 0 0 0 0x20 (0x6C ∷ 0xFF ∷ 0xFF ∷ []) in reads o 3 0xFFFF 0 0 && reads o 4 0x0000 0 0)
+    ∷ jumpsBy 0xFFFF 0xFF00
     -- 45 decimal 20 - 01, C = 1: the low digits borrow, 19; FF + 01: 00, Z, C; ROL A of 80 with C
     ∷ results (on 0x20 0 0 0x29 (0xE9 ∷ 0x01 ∷ [])) 2 0x19 0 0x29
     ∷ results (on 0xFF 0 0 0x20 (0x69 ∷ 0x01 ∷ [])) 2 0x00 0 0x23

@@ -24,7 +24,7 @@ use Rattle.rules.specs.Cycles.{Cycles, done, write, _>>=_, _>>_}
 use Rattle.rules.specs.Flags.{byteOf4, flagsOf, nz, withV, withD, withI, withC}
 use Rattle.rules.specs.Arithmetic.{signed, adc, sbc, compare, bitTest, changed}
 use Rattle.rules.specs.Opcodes.{Entry, undefined, alone, byte, word, late, decode}
-use Rattle.rules.specs.Addressing.{get, put, wordAt, load, place, bankOf}
+use Rattle.rules.specs.Addressing.{get, put, oldPage, wordAt, load, place, bankOf}
 
 -- The registers, one changed.
 
@@ -179,9 +179,9 @@ brk c = do
   put (stack (down 2 (c .s))) (byteOf4 (c .p))
   enter 0xFFFE c
 
--- "JMP (a): two operands, pointer, and the next location"
+-- "JMP (a): two operands, pointer"; document 02: "the second pointer byte is read in the same page, low byte wrapped"
 unfoldable pub jumpIndirect : ℕ → Cpu → Cycles Cpu
-jumpIndirect a c = wordAt a (sum16 a 1) >>= λ to. done (withPc to c)
+jumpIndirect a c = wordAt a (oldPage a 1) >>= λ to. done (withPc to c)
 
 unfoldable pub perform : Instruction → Cpu → Cycles Cpu
 perform (Read o m) c = load c m >>= λ v. done (used o v c)

@@ -6,6 +6,9 @@ use Rattle.unique.proofs.General.{Unique, answer}
 pub join : Unique its.join.Kinds.ps its.join.Kinds.r its.join.Reads.Post
 join κs a x y = answer refl
 
+pub old-page : Unique its.old_page.Kinds.ps its.old_page.Kinds.r its.old_page.Reads.Post
+old-page κs a x y = answer refl
+
 pub target : Unique its.target.Kinds.ps its.target.Kinds.r its.target.Reads.Post
 target κs a x y = answer refl
 

@@ -11,8 +11,8 @@ returns : tie.Need-returns
 unfolding jumpIndirect _>>=_
 returns c = λ s h.
     let at-word = c .before .before .before .before .before .before in
-    let at-sum = at-word .before .before .before in
-    let word = rw (at-sum .wrapping-add-u16 .ensures) at (at-word .word-at .ensures s h) in
+    let at-old-page = at-word .before .before .before in
+    let word = rw (at-old-page .old-page .ensures) at (at-word .word-at .ensures s h) in
     does s (makes-pc {pc = at-word .word-at .result} refl (c .before .before .set-pc .ensures) s (h .bytes))
     (then-call (λ to. done (withPc to (s .cpu))) word ended)
 
