@@ -1,4 +1,4 @@
-// Addresses and their two bytes, a place in the same page, where a branch goes, places in the stack's page.
+// Addresses and their two bytes, an address in its page, where a branch goes, places in the stack's page.
 
 ghost use mathlib.Core.Path.{_≡_};
 ghost use Rattle.rules.specs.Basics.{address};
