@@ -1,4 +1,4 @@
-//! The second program: document 01's rules once more, and what holds a core to them.
+//! The second program: the documents' rules once more, and what holds a core to them.
 
 mod admission;
 #[cfg(not(yardstick_only))]

@@ -16,8 +16,8 @@ pub fn join(low: u8, high: u8) -> u16
 pub fn old_page(a: u16, i: u8) -> u16
     ensures { λ r. ⌜ r ≡ oldPage a i ⌝ }
 {
-    let low = std::num::wrapping_add_u8((a % 256) as u8, i);
-    join(low, (a / 256) as u8)
+    let sum = std::num::wrapping_add_u16(a, i as u16);
+    join((sum % 256) as u8, (a / 256) as u8)
 }
 
 // Where a branch goes: the next instruction's address, and a signed offset. `up` is that offset plus 128, `back` how far it leads back.
