@@ -1,5 +1,5 @@
 use Rattle.rules.specs.declared.Condition.the-variants.{Beq}
-use Rattle.decode.specs.Numbers.{conditions}
+use Rattle.decode.specs.Fields.{conditions}
 use Rattle.decode.proofs.Lists.{last}
 use borrow.Author.Needs.{needs}
 use Rattle.decode.proofs.condition.Statement.{statement}

@@ -1,5 +1,5 @@
 use Rattle.rules.specs.declared.Mode.the-variants.{IndirectBankY}
-use Rattle.decode.specs.Numbers.{modes}
+use Rattle.decode.specs.Fields.{modes}
 use Rattle.decode.proofs.Lists.{last}
 use borrow.Author.Needs.{needs}
 use Rattle.decode.proofs.mode.Statement.{statement}

@@ -1,5 +1,5 @@
-use Rattle.rules.specs.declared.Reading.the-variants.{Cpx}
-use Rattle.decode.specs.Numbers.{readings}
+use Rattle.rules.specs.declared.Reading.the-variants.{Sbc}
+use Rattle.decode.specs.Fields.{readings}
 use Rattle.decode.proofs.Lists.{last}
 use borrow.Author.Needs.{needs}
 use Rattle.decode.proofs.reading.Statement.{statement}
@@ -9,5 +9,4 @@ pub reading-spec : {M : Type 1} → statement M
 reading-spec =
     tie.close
     (tie.spec (λ c. search needs) (λ c. search needs) (λ c. search needs) (λ c. search needs) (λ c. search needs)
-    (λ c. search needs) (λ c. search needs) (λ c. search needs) (λ c. search needs) (λ c. search needs) (λ c. search needs)
-    (λ c. last readings _ Cpx (c .match .rest)))
+    (λ c. search needs) (λ c. search needs) (λ c. last readings _ Sbc (c .match .rest)))
