@@ -78,7 +78,7 @@ bankColumn a b = if eqb (a / 2) 2 then (if eqb b 4 then 9 else b) else b
 abbrev pub indexColumn : ℕ → ℕ → ℕ → ℕ
 indexColumn a b x =
     if eqb b 0 then 2
-    else if eqb (a / 2) 2 then (if eqb x 0 then b else if eqb b 5 then 8 else if eqb b 7 then 6 else b)
+    else if eqb x 1 then (if eqb (a / 2) 2 then (if eqb b 5 then 8 else if eqb b 7 then 6 else b) else b)
     else b
 
 unfoldable pub groupOne : ℕ → ℕ → Mode → Instruction

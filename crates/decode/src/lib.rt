@@ -78,11 +78,11 @@ fn reading(a: u8) -> Reading
 fn bank_column(a: u8, b: u8) -> u8
     ensures { λ r. ⌜ r ≡ bankColumn a b ⌝ }
 {
-    if a / 2 != 2 {
-        return b;
-    }
-    if b == 4 {
-        return INDIRECT_BANK_Y;
+    // STA and LDA are rows 4 and 5.
+    if a / 2 == 2 {
+        if b == 4 {
+            return INDIRECT_BANK_Y;
+        }
     }
     b
 }
@@ -106,17 +106,16 @@ fn index_column(a: u8, b: u8, x: u8) -> u8
     if b == 0 {
         return IMMEDIATE;
     }
-    if a / 2 != 2 {
-        return b;
-    }
-    if x == 0 {
-        return b;
-    }
-    if b == 5 {
-        return ZERO_Y;
-    }
-    if b == 7 {
-        return ABSOLUTE_Y;
+    // In group 2 these are STX and LDX.
+    if x == 1 {
+        if a / 2 == 2 {
+            if b == 5 {
+                return ZERO_Y;
+            }
+            if b == 7 {
+                return ABSOLUTE_Y;
+            }
+        }
     }
     b
 }
