@@ -21,15 +21,15 @@ OffPage p = p / 256 ≡ 1 → ⊥
 -- every write is off the stack page and writes a byte, and the result is as Q says, whatever bytes are read
 abbrev pub Calm : {A : Type 0} → (A → Type 0) → Cycles A → Type 0
 Calm Q (done x) = Q x
-Calm Q (read b p f) = (v : ℕ) → v < 256 → Calm Q (f v)
-Calm Q (write b p v t) = OffPage p × (v < 256) × Calm Q t
+Calm Q (read why b p f) = (v : ℕ) → v < 256 → Calm Q (f v)
+Calm Q (write why b p v t) = OffPage p × (v < 256) × Calm Q t
 
 pub calm-bind : {A B : Type 0} (P : A → Type 0) (Q : B → Type 0) (t : Cycles A) (k : A → Cycles B) → Calm P t →
     ((x : A) → P x → Calm Q (k x)) → Calm Q (t >>= k)
 unfolding _>>=_
 calm-bind P Q (done x) k c h = h x c
-calm-bind P Q (read b p f) k c h = λ v n. calm-bind P Q (f v) k (c v n) h
-calm-bind P Q (write b p v t) k (off, n, c) h = (off, n, calm-bind P Q t k c h)
+calm-bind P Q (read why b p f) k c h = λ v n. calm-bind P Q (f v) k (c v n) h
+calm-bind P Q (write why b p v t) k (off, n, c) h = (off, n, calm-bind P Q t k c h)
 
 -- what a write off the stack page leaves as it was
 pub record Kept (c : ℕ) (m m′ : List ℕ) : Type 0 where
@@ -70,10 +70,10 @@ pub calmly : {A : Type 0} (Q : A → Type 0) (c : ℕ) (t : Cycles A) (m : List 
 unfolding ends
 calmly Q c (done x) m b q =
     record { value = q; kept = record { size = refl; bytes = b; stackPage = λ p h. refl; protectedPages = λ p h. refl }; quiet = refl }
-calmly Q c (read k p f) m b q =
+calmly Q c (read why k p f) m b q =
     let r = calmly Q c (f (at m p)) m b (q (at m p) (b p)) in
     record { value = r .value; kept = r .kept; quiet = r .quiet }
-calmly Q c (write k p v t) m b (off, n, q) =
+calmly Q c (write why k p v t) m b (off, n, q) =
     let r = calmly Q c t (written c m p v) (written-byte c m p v n b) q in
     record {
       value = r .value;

@@ -37,8 +37,8 @@ pub record End (A : Type 0) : Type 0 where
 
 unfoldable pub ends : {A : Type 0} → ℕ → Cycles A → List ℕ → End A
 ends c (done a) m = record { value = a; image = m; writes = [] }
-ends c (read b p f) m = ends c (f (at m p)) m
-ends c (write b p v t) m =
+ends c (read why b p f) m = ends c (f (at m p)) m
+ends c (write why b p v t) m =
     let e = ends c t (written c m p v) in
     record { value = e .value; image = e .image; writes = if eqb (p / 256) 1 then p ∷ e .writes else e .writes }
 
@@ -67,9 +67,9 @@ module _ (b : Bus) (is : b .part ≡ 2) where
   pub run-ends : {A : Type 0} (t : Cycles A) (m : List ℕ) → Ended (run (board images) t (world b m)) (ends (b .protected) t m)
   unfolding run ends
   run-ends (done a) m = record { value = refl; after = refl; writes = refl }
-  run-ends (read k p f) m =
+  run-ends (read why k p f) m =
       rw (look-6502 m k p) (let e = run-ends (f (at m p)) m in record { value = e .value; after = e .after; writes = e .writes })
-  run-ends (write k p v t) m =
+  run-ends (write why k p v t) m =
       rw (stored-6502 m k p v)
       (let e = run-ends t (written (b .protected) m p v) in
       record { value = e .value; after = e .after; writes = ap (λ (l : List ℕ). if eqb (p / 256) 1 then p ∷ l else l) (e .writes) })

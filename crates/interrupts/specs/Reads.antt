@@ -1,5 +1,6 @@
 -- How an interrupt and a reset begin, and what a reset reads where an interrupt pushes.
 use Prim.Native.Nat.{ℕ}
+use Rattle.rules.specs.declared.Purpose.the-variants.{Wasted, Stack}
 use Rattle.rules.specs.Operations.{stack, down}
 use Rattle.rules.specs.Cycles.{Cycles, done, _>>=_, _>>_}
 use Rattle.rules.specs.Addressing.{get}
@@ -7,14 +8,14 @@ use Rattle.rules.specs.Addressing.{get}
 -- "read PC twice"
 abbrev pub twoReads : ℕ → Cycles (Unit {0})
 twoReads p = do
-  get p
-  get p
+  get Wasted p
+  get Wasted p
   done tt
 
 -- "three stack reads in place of pushes"
 abbrev pub threeReads : ℕ → Cycles (Unit {0})
 threeReads s = do
-  get (stack s)
-  get (stack (down 1 s))
-  get (stack (down 2 s))
+  get Stack (stack s)
+  get Stack (stack (down 1 s))
+  get Stack (stack (down 2 s))
   done tt

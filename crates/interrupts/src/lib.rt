@@ -1,5 +1,6 @@
 // The interrupts and RES. Each access has its number in the step.
 
+use rules::Purpose;
 use wiring::Wiring;
 ghost use Prim.Native.Nat.{_<_};
 ghost use lib.ListN.{length};
@@ -16,8 +17,8 @@ fn two_reads(state: &[u8], w: Wiring, image: &[u8], list: &mut [u8], pc: u16)
     ensures { λ r. ⌜ ((t : State) → Stands execution t (now (state .entry)) w →
         Goes (twoReads pc) 0 (t .bus) (now (image .entry)) (now (list .entry)) tt 2 (t .bus) (now (image .entry)) (now (list .exit))) ⌝ }
 {
-    reads::read(state, w, image, list, 0, pc);
-    reads::read(state, w, image, list, 1, pc);
+    reads::read(Purpose::Wasted, state, w, image, list, 0, pc);
+    reads::read(Purpose::Wasted, state, w, image, list, 1, pc);
 }
 
 // "IRQ, NMI: read PC twice, push PC high, low, P (bit 4 clear), read the vector (FFFE, FFFA), set I."
@@ -43,9 +44,9 @@ fn three_reads(state: &[u8], w: Wiring, image: &[u8], list: &mut [u8], s: u8)
 {
     let one = bytes::stack(bytes::down(1, s));
     let two = bytes::stack(bytes::down(2, s));
-    reads::read(state, w, image, list, 2, bytes::stack(s));
-    reads::read(state, w, image, list, 3, one);
-    reads::read(state, w, image, list, 4, two);
+    reads::read(Purpose::Stack, state, w, image, list, 2, bytes::stack(s));
+    reads::read(Purpose::Stack, state, w, image, list, 3, one);
+    reads::read(Purpose::Stack, state, w, image, list, 4, two);
 }
 
 // "RES: the same with three stack reads in place of pushes, S lowered by 3, vector FFFC, I set, D kept"

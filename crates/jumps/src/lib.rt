@@ -1,5 +1,6 @@
 // JSR and JMP (a). Each access has its number in the step.
 
+use rules::Purpose;
 use wiring::Wiring;
 ghost use lib.ListN.{length};
 ghost use Rattle.rules.specs.declared.State.{State};
@@ -16,9 +17,9 @@ pub fn jsr(low: u8, pc: u16, state: &mut [u8], w: Wiring, image: &mut [u8], list
         (now (list .exit))) ⌝ }
 {
     let s = state[state::S];
-    reads::read(state, w, image, list, 2, bytes::stack(s));
+    reads::read(Purpose::Wasted, state, w, image, list, 2, bytes::stack(s));
     writes::push_pc(state, w, image, list, 3, pc, s);
-    let high = reads::read(state, w, image, list, 5, pc);
+    let high = reads::read(Purpose::Operand, state, w, image, list, 5, pc);
     state::set_s(state, bytes::down(2, s));
     state::set_pc(state, bytes::join(low, high));
 }
@@ -31,6 +32,6 @@ pub fn jump_indirect(a: u16, state: &mut [u8], w: Wiring, image: &[u8], list: &m
         (now (list .exit))) ⌝ }
 {
     let next = bytes::old_page(a, 1);
-    let to = reads::word_at(state, w, image, list, 3, a, next);
+    let to = reads::word_at(Purpose::Pointer, state, w, image, list, 3, a, next);
     state::set_pc(state, to);
 }

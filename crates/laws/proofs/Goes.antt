@@ -12,8 +12,9 @@ use Rattle.laws.proofs.Cycles.{run-bind}
 use Rattle.laws.proofs.Lists.{sets-append}
 use Rattle.rules.specs.declared.Cpu.{Cpu}
 use Rattle.rules.specs.declared.State.{State}
+use Rattle.rules.specs.declared.Purpose.{Purpose}
 use Rattle.rules.specs.Record.{recordOf}
-use Rattle.laws.specs.Goes.{Goes, Does}
+use Rattle.laws.specs.Goes.{Goes, access, Does}
 use Rattle.laws.specs.States.{moved}
 
 list-append : (xs ys : List Access) → listOf (xs ++ ys) ≡ listOf xs ++ listOf ys
@@ -48,27 +49,29 @@ then-call {t = t} f {k = k} {u = u} {i = i} {l = l} d e =
     }
 
 -- what a read and a write of the bus say
-pub reads : (κ : Bank) (p v b k : ℕ) (u : Bus) (i l l′ : List ℕ) → v ≡ look images (world u i) κ p → b ≡ selected u κ →
-    l′ ≡ sets l (8 * k) (bytesOf (record { address = p; bank = b; value = v; kind = 0 })) → Goes (read κ p done) k u i l v (k + 1) u i l′
+pub reads : (why : Purpose) (κ : Bank) (p v b k : ℕ) (u : Bus) (i l l′ : List ℕ) → v ≡ look images (world u i) κ p → b ≡ selected u κ →
+    l′ ≡ sets l (8 * k) (bytesOf (access 0 why p b v)) → Goes (read why κ p done) k u i l v (k + 1) u i l′
 unfolding run listOf
-reads κ p v b k u i l l′ e d h =
-    record { made = record { address = p; bank = b; value = v; kind = 0 } ∷ []; ran = rw (e, d); count = omega arith; listed = sym h }
+reads why κ p v b k u i l l′ e d h =
+    record { made = access 0 why p b v ∷ []; ran = rw (e, d); count = omega arith; listed = sym h }
 
-pub writes : (κ : Bank) (p v b k : ℕ) (u u′ : Bus) (i i′ l l′ : List ℕ) → stored images (world u i) κ p v ≡ world u′ i′ → b ≡ selected u κ →
-    l′ ≡ sets l (8 * k) (bytesOf (record { address = p; bank = b; value = v; kind = 1 })) →
-    Goes {A = Unit {0}} (write κ p v (done tt)) k u i l tt (k + 1) u′ i′ l′
+pub writes : (why : Purpose) (κ : Bank) (p v b k : ℕ) (u u′ : Bus) (i i′ l l′ : List ℕ) →
+    stored images (world u i) κ p v ≡ world u′ i′ → b ≡ selected u κ → l′ ≡ sets l (8 * k) (bytesOf (access 1 why p b v)) →
+    Goes {A = Unit {0}} (write why κ p v (done tt)) k u i l tt (k + 1) u′ i′ l′
 unfolding run listOf
-writes κ p v b k u u′ i i′ l l′ e d h =
-    record { made = record { address = p; bank = b; value = v; kind = 1 } ∷ []; ran = rw (e, d); count = omega arith; listed = sym h }
+writes why κ p v b k u u′ i i′ l l′ e d h =
+    record { made = access 1 why p b v ∷ []; ran = rw (e, d); count = omega arith; listed = sym h }
 
-pub then-read : {A : Type 0} {κ : Bank} {p : ℕ} (f : ℕ → Cycles A) {k n m : ℕ} {u u′ u″ : Bus} {i l i′ l′ i″ l″ : List ℕ} {v : ℕ} {a : A} →
-    Goes (read κ p done) k u i l v n u′ i′ l′ → Goes (f v) n u′ i′ l′ a m u″ i″ l″ → Goes (read κ p f) k u i l a m u″ i″ l″
+pub then-read : {A : Type 0} {why : Purpose} {κ : Bank} {p : ℕ} (f : ℕ → Cycles A) {k n m : ℕ} {u u′ u″ : Bus}
+    {i l i′ l′ i″ l″ : List ℕ} {v : ℕ} {a : A} →
+    Goes (read why κ p done) k u i l v n u′ i′ l′ → Goes (f v) n u′ i′ l′ a m u″ i″ l″ → Goes (read why κ p f) k u i l a m u″ i″ l″
 unfolding _>>=_
 then-read f d e = then-call f d e
 
-pub then-write : {A : Type 0} {κ : Bank} {p v : ℕ} (t : Cycles A) {k n m : ℕ} {u u′ u″ : Bus} {i l i′ l′ i″ l″ : List ℕ} {a : A} →
-    Goes {A = Unit {0}} (write κ p v (done tt)) k u i l tt n u′ i′ l′ → Goes t n u′ i′ l′ a m u″ i″ l″ →
-    Goes (write κ p v t) k u i l a m u″ i″ l″
+pub then-write : {A : Type 0} {why : Purpose} {κ : Bank} {p v : ℕ} (t : Cycles A) {k n m : ℕ} {u u′ u″ : Bus}
+    {i l i′ l′ i″ l″ : List ℕ} {a : A} →
+    Goes {A = Unit {0}} (write why κ p v (done tt)) k u i l tt n u′ i′ l′ → Goes t n u′ i′ l′ a m u″ i″ l″ →
+    Goes (write why κ p v t) k u i l a m u″ i″ l″
 unfolding _>>=_
 then-write t d e = then-call (λ x. t) d e
 
@@ -98,7 +101,7 @@ pub do-does : {t : Cycles (Unit {0})} (w : Cycles Cpu) {k n m : ℕ} {s : State}
     Goes t k (s .bus) i l tt n (s .bus) i′ l′ → Does w n s i′ l′ m r″ i″ l″ → Does (t >>= λ x. w) k s i l m r″ i″ l″
 do-does w d e = call-does (λ x. w) d e
 
-pub read-does : {κ : Bank} {p : ℕ} (f : ℕ → Cycles Cpu) {k n m : ℕ} {s : State} {i l i′ l′ r″ i″ l″ : List ℕ} {v : ℕ} →
-    Goes (read κ p done) k (s .bus) i l v n (s .bus) i′ l′ → Does (f v) n s i′ l′ m r″ i″ l″ → Does (read κ p f) k s i l m r″ i″ l″
+pub read-does : {why : Purpose} {κ : Bank} {p : ℕ} (f : ℕ → Cycles Cpu) {k n m : ℕ} {s : State} {i l i′ l′ r″ i″ l″ : List ℕ} {v : ℕ} →
+    Goes (read why κ p done) k (s .bus) i l v n (s .bus) i′ l′ → Does (f v) n s i′ l′ m r″ i″ l″ → Does (read why κ p f) k s i l m r″ i″ l″
 unfolding _>>=_
 read-does f d e = call-does f d e

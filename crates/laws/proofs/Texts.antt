@@ -21,6 +21,10 @@ sized size r m lines pins s = same (textOf charts r lines pins m size) (said s)
 abbrev whole : List ℕ → Chart → ℕ → ℕ → String → Bool
 whole = sized 65554
 
+-- the same, where the text is written as its accesses and what follows them
+abbrev seven : List ℕ → Chart → ℕ → ℕ → String → String → Bool
+seven r m lines pins s t = same (textOf charts r lines pins m 65554) (said s ++ said t)
+
 -- "Record 02 00 00 00 FF 24 00 80 and eight zeros; .. image zero but 8000 A5 10, 0010 42"
 abbrev paper : List ℕ
 paper = state 2 0 0 0xFF 0x24 0x8000
@@ -29,7 +33,7 @@ abbrev loads : Chart
 loads = zeros 1 from 0x8000 holds (0xA5 ∷ 0x10 ∷ []) from 0x0010 holds (0x42 ∷ [])
 
 abbrev papers : String
-papers = "R 0 8000 A5\nR 0 8001 10\nR 0 0010 42\nN 3\nS 02420000FF2402800000000003000000\n"
+papers = "R 0 8000 A5 1\nR 0 8001 10 2\nR 0 0010 42 5\nN 3\nS 02420000FF2402800000000003000000\n"
 
 -- image zero but these bytes at 8000
 abbrev program : List ℕ → Chart
@@ -40,17 +44,19 @@ texts =
     -- 1 the document's
     whole paper loads 0 0 papers
     -- 2 an IRQ
-    ∷ whole (state 2 7 0 0xFF 0x20 0x8000) (program (0xEA ∷ []) from 0xFFFE holds (0x34 ∷ 0x12 ∷ [])) 4 0
-    "R 0 8000 EA\nR 0 8000 EA\nW 0 01FF 80\nW 0 01FE 00\nW 0 01FD 20\nR 0 FFFE 34\nR 0 FFFF 12\nN 7\nS 02070000FC2434120000000007000000\n"
+    ∷ seven (state 2 7 0 0xFF 0x20 0x8000) (program (0xEA ∷ []) from 0xFFFE holds (0x34 ∷ 0x12 ∷ [])) 4 0
+    "R 0 8000 EA 3\nR 0 8000 EA 3\nW 0 01FF 80 6\nW 0 01FE 00 6\nW 0 01FD 20 6\nR 0 FFFE 34 7\nR 0 FFFF 12 7\n"
+    "N 7\nS 02070000FC2434120000000007000000\n"
     -- 3 a 6508 reads its port: "direction 0F, output A5, pins 5A: reads 55"
     ∷ whole (registers 0x0F 0xA5 (state 8 7 0 0xFF 0x20 0x8000)) (program (0xA5 ∷ 0x01 ∷ [])) 0 0x5A
-    "R 0 8000 A5\nR 0 8001 01\nR 0 0001 55\nN 3\nS 08550000FF2002800FA5000003000000\n"
+    "R 0 8000 A5 1\nR 0 8001 01 2\nR 0 0001 55 5\nN 3\nS 08550000FF2002800FA5000003000000\n"
     -- 4 "6509, execution bank 2, E6 00: writes 02, then 03; bank 3 next"
     ∷ whole (registers 2 0 (state 9 7 0 0xFF 0x20 0x8000)) (program (0xE6 ∷ 0x00 ∷ [])) 0 0
-    "R 2 8000 E6\nR 2 8001 00\nR 2 0000 02\nW 2 0000 02\nW 2 0000 03\nN 5\nS 09070000FF2002800300000005000000\n"
+    "R 2 8000 E6 1\nR 2 8001 00 2\nR 2 0000 02 5\nW 2 0000 02 3\nW 2 0000 03 5\nN 5\nS 09070000FF2002800300000005000000\n"
     -- 5 RES of a 6509: "6509 registers 15, both before its first access"
-    ∷ whole (registers 2 0 (state 9 0 0 0xFF 0x20 0x8000)) (program (0xEA ∷ []) from 0xFFFD holds (0x90 ∷ [])) 1 0
-    "R F 8000 EA\nR F 8000 EA\nR F 01FF 00\nR F 01FE 00\nR F 01FD 00\nR F FFFC 00\nR F FFFD 90\nN 7\nS 09000000FC2400900F0F000007000000\n"
+    ∷ seven (registers 2 0 (state 9 0 0 0xFF 0x20 0x8000)) (program (0xEA ∷ []) from 0xFFFD holds (0x90 ∷ [])) 1 0
+    "R F 8000 EA 3\nR F 8000 EA 3\nR F 01FF 00 6\nR F 01FE 00 6\nR F 01FD 00 6\nR F FFFC 00 7\nR F FFFD 90 7\n"
+    "N 7\nS 09000000FC2400900F0F000007000000\n"
     -- 6 "an input under 16 bytes is 1, another wrong length 3, after 2"
     ∷ sized 15 paper loads 0 0 "E 1\n"
     ∷ sized 16 paper loads 0 0 "E 3\n"

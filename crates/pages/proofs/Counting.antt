@@ -18,17 +18,6 @@ pub and-false : (b : Bool) → (b && false) ≡ false
 and-false true = refl
 and-false false = refl
 
--- four bytes as one number
-pub one-number : (a b c d : ℕ) → leb (a + 256 * b + 65536 * c + 16777216 * d) 1 ≡ (leb a 1 && eqb b 0 && eqb c 0 && eqb d 0)
-one-number a (suc b) c d = rw (lt-leb (a + 256 * suc b + 65536 * c + 16777216 * d) 1 (omega arith), eqb·suc-zero b, and-false (leb a 1))
-one-number a zero (suc c) d =
-    rw (lt-leb (a + 256 * 0 + 65536 * suc c + 16777216 * d) 1 (omega arith), eqb·suc-zero c, and-false (leb a 1 && eqb 0 0))
-one-number a zero zero (suc d) =
-    rw (lt-leb (a + 256 * 0 + 65536 * 0 + 16777216 * suc d) 1 (omega arith), eqb·suc-zero d, and-false (leb a 1 && eqb 0 0 && eqb 0 0))
-one-number a zero zero zero =
-    let e : a + 256 * 0 + 65536 * 0 + 16777216 * 0 ≡ a = omega arith in
-    rw (e, and-true (leb a 1), and-true (leb a 1), and-true (leb a 1))
-
 -- room for n more, by what the sum is
 pub room-beside : (s t n : ℕ) → Sum t ≡ totalOf s → leb n (18446744073709551615 - t) ≡ ltb (s + n) (2 ^ 64)
 room-beside s t n e = go (ltb s (2 ^ 64)) refl e

@@ -1,3 +1,4 @@
 pub mod Counting
+pub mod Ends
 pub mod Feeding
 pub mod Blocks

@@ -14,39 +14,48 @@ ghost use Rattle.rules.specs.Basics.{all, at};
 ghost use Rattle.rules.specs.Answers.{tested};
 ghost use Rattle.rules.specs.Pages.{isRecord, recordsIn, raised, counted, formTests, counting, fed, none, sum, countingOf};
 ghost use Rattle.laws.proofs.Counts.{Bytes};
+ghost use Rattle.pages.specs.Ends.{fits};
 ghost use Rattle.pages.specs.Room.{Counts};
 ghost use Rattle.pages.specs.Blocks.{refusedBy, further};
 
-// "a record with byte 4 above 1 or bytes 5 to 7 not zero". The four are judged as one number, low byte first: so the compiler reads and
-// compares them at once.
-fn ends(kind: u8, fifth: u8, sixth: u8, seventh: u8) -> bool
-    ensures { λ r. ⌜ r ≡ (leb kind 1 && eqb fifth 0 && eqb sixth 0 && eqb seventh 0) ⌝ }
+// A record's last four bytes as one number, low byte first.
+fn joined(kind: u8, purpose: u8, sixth: u8, seventh: u8) -> u32
+    ensures { λ r. ⌜ fits r ≡ (leb kind 1 && leb purpose 7 && eqb sixth 0 && eqb seventh 0) ⌝ }
 {
-    kind as u32 + 256 * fifth as u32 + 65536 * sixth as u32 + 16777216 * seventh as u32 <= 1
+    kind as u32 + 256 * purpose as u32 + 65536 * sixth as u32 + 16777216 * seventh as u32
 }
 
-fn is_record(list: &[u8], k: usize) -> bool
+fn end_of(list: &[u8], k: usize) -> u32
     requires { ⌜ 8 * k + 8 ≤ length (now list) ⌝ }
-    ensures { λ r. ⌜ r ≡ isRecord (now (list .entry)) k ⌝ }
+    ensures { λ r. ⌜ fits r ≡ isRecord (now (list .entry)) k ⌝ }
 {
     let p = 8 * k;
-    ends(list[p + 4], list[p + 5], list[p + 6], list[p + 7])
+    joined(list[p + 4], list[p + 5], list[p + 6], list[p + 7])
 }
 
-// All are counted, with no way out at the first: so the compiler judges several at a time.
+// "byte 4 above 1"; "byte 5 as 0 to 7, where 0 is a list from before this change, and bytes 6 and 7 as zero": no bit but the lowest of
+// byte 4 and the lowest three of byte 5.
+fn fits(end: u32) -> bool
+    ensures { λ r. ⌜ r ≡ fits end ⌝ }
+{
+    if end < 2048 {
+        return end % 256 < 2;
+    }
+    false
+}
+
+// The bits of all are put together and judged once, with no way out at the first that is wrong: so the compiler reads several at a time.
 fn are_records(list: &[u8]) -> bool
     ensures { λ r. ⌜ r ≡ all (recordsIn (now (list .entry))) (isRecord (now (list .entry))) ⌝ }
 {
     let n = list.len() / 8;
-    let mut bad: usize = 0;
+    let mut bits: u32 = 0;
     let mut k = 0;
     while k < n {
-        if !is_record(list, k) {
-            bad += 1;
-        }
+        bits = bits | end_of(list, k);
         k += 1;
     }
-    bad == 0
+    fits(bits)
 }
 
 // "a total of all counts that would pass 64 bits": whether n more can be counted.

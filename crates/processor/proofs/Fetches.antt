@@ -8,8 +8,12 @@ use lib.Dec.{eqb}
 use Rattle.rules.specs.declared.Bus.{Bus}
 use Rattle.rules.specs.declared.Cpu.{Cpu}
 use Rattle.rules.specs.declared.State.{State}
+use Rattle.rules.specs.declared.Mode.{Mode}
+use Rattle.rules.specs.declared.Mode.the-variants.{Immediate, Zero, ZeroX, ZeroY, Absolute, AbsoluteX, AbsoluteY, IndirectX, IndirectY}
+use Rattle.rules.specs.declared.Mode.the-variants.{IndirectBankY}
 use Rattle.rules.specs.declared.Instruction.{Instruction}
 use Rattle.rules.specs.declared.Instruction.the-variants.{Undefined}
+use Rattle.rules.specs.declared.Purpose.the-variants.{Opcode, Operand}
 use Rattle.rules.specs.Basics.{if_then_else_, address, sum16}
 use Rattle.rules.specs.Cycles.{Bank, execution, Cycles, done, read, _>>=_, _>>_, Ran, run}
 use Rattle.rules.specs.Bus.{World, world, images, look, board}
@@ -26,7 +30,8 @@ use Rattle.laws.proofs.Goes.{ended, then-do, then-call}
 use Rattle.wiring.specs.declared.Wiring.{Wiring}
 use Rattle.wiring.specs.Wiring.{Stands}
 use Rattle.processor.specs.Begun.{short}
-use Rattle.laws.specs.Sizes.{sizeIn}
+use Rattle.laws.specs.Sizes.{modeSize, sizeIn}
+use Rattle.processor.specs.Found.{secondFor}
 use Rattle.processor.specs.Rest.{highOf, past, pastIn, behind, begunBy, rest, Fetched, Opens, Reaches}
 
 -- each is one computed claim on the table of 256
@@ -59,6 +64,19 @@ undefined-made (byte f) low high h = absurd (false≢true (sym h))
 undefined-made (word f) low high h = absurd (false≢true (sym h))
 undefined-made (late f) low high h = absurd (false≢true (sym h))
 
+-- an instruction that has a mode is longer than one byte
+pub longer : (m : Mode) → eqb (modeSize m) 1 ≡ false
+longer (Immediate v) = refl
+longer (Zero z) = refl
+longer (ZeroX z) = refl
+longer (ZeroY z) = refl
+longer (Absolute low high) = refl
+longer (AbsoluteX low high) = refl
+longer (AbsoluteY low high) = refl
+longer (IndirectX z) = refl
+longer (IndirectY z) = refl
+longer (IndirectBankY z) = refl
+
 pub twice : (pc : ℕ) → sum16 (sum16 pc 1) 1 ≡ sum16 pc 2
 twice pc = omega arith
 
@@ -75,7 +93,8 @@ module _ (u : Bus) (i : List ℕ) where
 
   entered : (e : Entry) (c : Cpu) (low high : ℕ) → isDefined e ≡ true → low ≡ found (sum16 (c .pc) 1) → high ≡ found (sum16 (c .pc) 2) →
       sizeIn 2 (instructionOf e low high) ≡ fetchedBy e →
-      runs (operate e (onward c)) ≡ runs (get (sum16 (c .pc) 1) >> rest (instructionOf e low high) c)
+      (let j = instructionOf e low high in
+      runs (operate e (onward c)) ≡ runs (get (secondFor (sizeIn 2 j)) (sum16 (c .pc) 1) >> rest j c))
   unfolding operate run rest _>>=_
   entered undefined c low high h p q z = absurd (false≢true h)
   entered (alone j) c low high h p q z = rw z
@@ -85,7 +104,8 @@ module _ (u : Bus) (i : List ℕ) where
 
   pub fetched-first : (c : Cpu) (op low high : ℕ) → op < 256 → isDefined (decode op) ≡ true →
       op ≡ found (c .pc) → low ≡ found (sum16 (c .pc) 1) → high ≡ found (sum16 (c .pc) 2) →
-      runs (instruction c) ≡ runs (get (c .pc) >> (get (sum16 (c .pc) 1) >> rest (instructionOf (decode op) low high) c))
+      (let j = instructionOf (decode op) low high in
+      runs (instruction c) ≡ runs (get Opcode (c .pc) >> (get (secondFor (sizeIn 2 j)) (sum16 (c .pc) 1) >> rest j c)))
   unfolding instruction run _>>=_
   fetched-first c op low high b h o p q = rw (← o) (rw (entered (decode op) c low high h p q (size-is op low high b)))
 
@@ -108,8 +128,9 @@ pub opened : {A : Type 0} (n pc : ℕ) (t : Cycles A) {m : ℕ} {u u′ : Bus} {
 unfolding _>>=_
 opened n pc t {m} {u} {u′} {i} {l} {i′} {l₁} {l′} {a} = go (eqb n 3)
   where
-    go : (b : Bool) → Goes {A = Unit {0}} (if b then get (sum16 pc 2) >> done tt else done tt) 2 u i l tt (if b then 3 else 2) u i l₁ →
-        Goes t (if b then 3 else 2) u i l₁ a m u′ i′ l′ → Goes (if b then get (sum16 pc 2) >> t else t) 2 u i l a m u′ i′ l′
+    go : (b : Bool) →
+        Goes {A = Unit {0}} (if b then get Operand (sum16 pc 2) >> done tt else done tt) 2 u i l tt (if b then 3 else 2) u i l₁ →
+        Goes t (if b then 3 else 2) u i l₁ a m u′ i′ l′ → Goes (if b then get Operand (sum16 pc 2) >> t else t) 2 u i l a m u′ i′ l′
     go true d e = then-do t d e
     go false d e = then-do t d e
 
@@ -138,7 +159,8 @@ behind-call : {A B : Type 0} (n pc : ℕ) (t : Cycles A) (f : A → Cycles B) �
 unfolding _>>=_
 behind-call n pc t f = go (eqb n 3)
   where
-    go : (b : Bool) → (if b then get (sum16 pc 2) >> (t >>= f) else t >>= f) ≡ (if b then get (sum16 pc 2) >> t else t) >>= f
+    go : (b : Bool) →
+        (if b then get Operand (sum16 pc 2) >> (t >>= f) else t >>= f) ≡ (if b then get Operand (sum16 pc 2) >> t else t) >>= f
     go true = refl
     go false = refl
 

@@ -6,3 +6,4 @@ pub mod Executes
 pub mod Conditions
 pub mod Banks
 pub mod Through
+pub mod Crossing

@@ -11,6 +11,7 @@ use Rattle.rules.specs.declared.Instruction.{Instruction}
 use Rattle.rules.specs.declared.Instruction.the-variants.{Read, Store, Change, Accumulator, Implied, AtStack, Branch, Jump, JumpIndirect}
 use Rattle.rules.specs.declared.Instruction.the-variants.{Jsr, Brk, Txs, Cli, Undefined}
 use Rattle.rules.specs.declared.Cpu.{Cpu}
+use Rattle.rules.specs.declared.Purpose.the-variants.{Operand, Data}
 use Rattle.rules.specs.declared.State.{State}
 use Rattle.rules.specs.Basics.{if_then_else_, sum16}
 use Rattle.rules.specs.Cycles.{Bank, execution, Cycles, done, _>>=_, _>>_}
@@ -62,7 +63,7 @@ pastIn n s = moved (past n (s .cpu)) (s .bus) s
 
 -- a tree behind the third of n bytes, if there is one
 abbrev pub behind : {A : Type 0} → ℕ → ℕ → Cycles A → Cycles A
-behind n pc t = if eqb n 3 then get (sum16 pc 2) >> t else t
+behind n pc t = if eqb n 3 then get Operand (sum16 pc 2) >> t else t
 
 -- accesses that have been listed once n bytes are fetched: PC+1 is read by all
 abbrev pub begunBy : ℕ → ℕ
@@ -97,7 +98,7 @@ pub record Reaches (n : ℕ) (t : Cycles ℕ) (s : State) (i l : List ℕ) (v k 
 
 -- a load by z,X or z,Y, i being the register's value
 abbrev pub loadZeroIndexed : ℕ → ℕ → Cycles ℕ
-loadZeroIndexed z i = zeroIndexed z i >>= get
+loadZeroIndexed z i = zeroIndexed z i >>= get Data
 
 -- a load, and the place of a store, by (z),Y: through a pointer, in a bank
 abbrev pub loadThrough : Bank → ℕ → ℕ → Cycles ℕ

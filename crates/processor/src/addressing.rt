@@ -2,15 +2,17 @@
 // fifth argument.
 
 use rules::Mode;
+use rules::Purpose;
 use wiring::Wiring;
 ghost use Prim.Native.Nat.{_+_, _%_, _≤_, _<_};
 ghost use mathlib.Core.Path.{_≡_};
 ghost use lib.ListN.{length};
 ghost use Rattle.rules.specs.declared.State.{State};
+ghost use Rattle.rules.specs.declared.Purpose.the-variants.{Data};
 ghost use Rattle.rules.specs.declared.Mode.the-variants.{IndirectX};
 ghost use Rattle.rules.specs.Cycles.{Bank, execution};
-ghost use Rattle.rules.specs.Basics.{address};
-ghost use Rattle.rules.specs.Addressing.{bankOf, get, pointer, zeroIndexed, loadIndexed, indexed, load, place};
+ghost use Rattle.rules.specs.Basics.{address, sum16};
+ghost use Rattle.rules.specs.Addressing.{bankOf, get, oldPage, pointer, zeroIndexed, firstFor, loadIndexed, indexed, load, place};
 ghost use Rattle.wiring.specs.Wiring.{Stands, Ready};
 ghost use Rattle.laws.specs.Goes.{Goes};
 ghost use Rattle.rules.specs.Record.{recordOf};
@@ -60,7 +62,7 @@ fn third(high: u8, pc: u16, state: &mut [u8], w: Wiring, list: &mut [u8])
         Opens 3 s i (now (list .entry)) (now (state .exit)) (now (list .exit))) ⌝ }
 {
     let at = std::num::wrapping_add_u16(pc, 2);
-    listing::note(list, 2, at, w.bank, high, 0);
+    listing::note_read(Purpose::Operand, list, 2, at, w.bank, high);
     past(3, pc, state);
 }
 
@@ -72,7 +74,7 @@ fn pointer(state: &[u8], w: Wiring, image: &[u8], list: &mut [u8], k: usize, z: 
         (now (image .entry)) (now (list .exit))) ⌝ }
 {
     let above = std::num::wrapping_add_u8(z, 1) as u16;
-    reads::word_at(state, w, image, list, k, z as u16, above)
+    reads::word_at(Purpose::Pointer, state, w, image, list, k, z as u16, above)
 }
 
 // "read at the old page with the summed low byte; then the data at the full sum"
@@ -82,8 +84,27 @@ fn indexed(state: &[u8], w: Wiring, image: &[u8], list: &mut [u8], k: usize, a: 
         Goes (indexed κ a i) k (s .bus) (now (image .entry)) (now (list .entry)) r (k + 1) (s .bus) (now (image .entry))
         (now (list .exit))) ⌝ }
 {
-    reads::read(state, w, image, list, k, bytes::old_page(a, i));
+    reads::read(
+        Purpose::Wasted,
+        state,
+        w,
+        image,
+        list,
+        k,
+        bytes::old_page(a, i),
+    );
     std::num::wrapping_add_u16(a, i as u16)
+}
+
+// What a load's first read is for, near being "the old page with the summed low byte": it is the sum unless a page was crossed.
+fn first_for(near: u16, sum: u16) -> Purpose
+    ensures { λ r. ⌜ ((a i : ℕ) → near ≡ oldPage a i → sum ≡ sum16 a i → r ≡ firstFor a i) ⌝ }
+{
+    if sum == near {
+        Purpose::Data
+    } else {
+        Purpose::Wasted
+    }
 }
 
 // "A load stops at that first read if no page was crossed"
@@ -103,14 +124,14 @@ fn load_indexed(
 {
     let near = bytes::old_page(a, i);
     let sum = std::num::wrapping_add_u16(a, i as u16);
-    let first = reads::read(state, w, image, list, k, near);
-    if sum / 256 == a / 256 {
+    let first = reads::read(first_for(near, sum), state, w, image, list, k, near);
+    if sum == near {
         return Loaded {
             value: first,
             count: k + 1,
         };
     }
-    let second = reads::read(state, w, image, list, k + 1, sum);
+    let second = reads::read(Purpose::Data, state, w, image, list, k + 1, sum);
     Loaded {
         value: second,
         count: k + 2,
@@ -149,7 +170,7 @@ fn zero_indexed(
         Reaches 2 (zeroIndexed z i) s (now (image .entry)) (now (list .entry)) r 3 (now (state .exit)) (now (list .exit))) ⌝ }
 {
     past(2, pc, state);
-    reads::read(state, w, image, list, 2, z as u16);
+    reads::read(Purpose::Wasted, state, w, image, list, 2, z as u16);
     std::num::wrapping_add_u8(z, i)
 }
 
@@ -211,12 +232,12 @@ fn at_indirect_y(
 fn from_zero(z: u8, pc: u16, state: &mut [u8], w: Wiring, image: &[u8], list: &mut [u8]) -> Loaded
     requires { ⌜ Ready w (length (now state)) (length (now image)) (length (now list)) ⌝ }
     ensures { λ r. ⌜ (r .count ≤ 7) × ((s : State) → Stands execution s (now (state .entry)) w → pc ≡ s .cpu .pc →
-        Reaches 2 (get z) s (now (image .entry)) (now (list .entry)) (r .value) (r .count)
+        Reaches 2 (get Data z) s (now (image .entry)) (now (list .entry)) (r .value) (r .count)
         (now (state .exit)) (now (list .exit))) ⌝ }
 {
     past(2, pc, state);
     Loaded {
-        value: reads::read(state, w, image, list, 2, z as u16),
+        value: reads::read(Purpose::Data, state, w, image, list, 2, z as u16),
         count: 3,
     }
 }
@@ -238,7 +259,7 @@ fn from_zero_indexed(
 {
     let at = zero_indexed(z, i, pc, state, w, image, list);
     Loaded {
-        value: reads::read(state, w, image, list, 3, at as u16),
+        value: reads::read(Purpose::Data, state, w, image, list, 3, at as u16),
         count: 4,
     }
 }
@@ -255,12 +276,12 @@ fn from_absolute(
 ) -> Loaded
     requires { ⌜ Ready w (length (now state)) (length (now image)) (length (now list)) ⌝ }
     ensures { λ r. ⌜ (r .count ≤ 7) × ((s : State) → Fetched (λ v. high) s (now (state .entry)) (now (image .entry)) w pc →
-        Reaches 3 (get (address low high)) s (now (image .entry)) (now (list .entry)) (r .value) (r .count)
+        Reaches 3 (get Data (address low high)) s (now (image .entry)) (now (list .entry)) (r .value) (r .count)
         (now (state .exit)) (now (list .exit))) ⌝ }
 {
     let a = absolute(low, high, pc, state, w, list);
     Loaded {
-        value: reads::read(state, w, image, list, 3, a),
+        value: reads::read(Purpose::Data, state, w, image, list, 3, a),
         count: 4,
     }
 }
@@ -283,7 +304,7 @@ fn from_indirect_x(
     let at = zero_indexed(z, x, pc, state, w, image, list);
     let a = pointer(state, w, image, list, 3, at);
     Loaded {
-        value: reads::read(state, w, image, list, 5, a),
+        value: reads::read(Purpose::Data, state, w, image, list, 5, a),
         count: 6,
     }
 }

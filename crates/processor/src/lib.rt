@@ -8,6 +8,7 @@ use rules::Condition;
 use rules::Instruction;
 use rules::Internal;
 use rules::Mode;
+use rules::Purpose;
 use rules::Reading;
 use rules::Stacking;
 use rules::Storing;
@@ -26,12 +27,13 @@ ghost use Rattle.rules.specs.Operations.{registerOf, taken, perform};
 ghost use Rattle.rules.specs.Flags.{flagsOf};
 ghost use Rattle.wiring.specs.Wiring.{Wired, Stands, Ready};
 ghost use Rattle.laws.specs.Goes.{Goes, Does};
+ghost use Rattle.laws.specs.Sizes.{sizeIn};
 ghost use Rattle.processor.specs.Begun.{short};
 ghost use Rattle.processor.specs.Conditions.{weightOf, senseOf};
 ghost use Rattle.processor.specs.Rest.{highIn, highOf, past, rest, Alone, Fetched};
 ghost use Rattle.processor.specs.Laid.{storedAt, rewritten, changedAt, Lays};
 ghost use Rattle.processor.specs.Executed.{Begins, Executed};
-ghost use Rattle.processor.specs.Found.{Found, begun};
+ghost use Rattle.processor.specs.Found.{Found, secondFor, begun};
 
 fn register_of(o: Storing, state: &[u8]) -> u8
     requires { ⌜ length (now state) ≡ 16 ⌝ }
@@ -60,7 +62,16 @@ fn store(
 {
     let there = addressing::wiring_of(m, state, w);
     let v = register_of(o, state);
-    writes::write(state, there, image, list, at.count, at.address, v);
+    writes::write(
+        Purpose::Data,
+        state,
+        there,
+        image,
+        list,
+        at.count,
+        at.address,
+        v,
+    );
 }
 
 // The two writes of "Shift/INC/DEC: read data, write it back, write the result"; v is what was read.
@@ -82,8 +93,8 @@ fn rewrite(
 {
     let f = state::flags_of(state);
     let made = arithmetic::changed(o, v, f);
-    writes::write(state, w, image, list, k, a, v);
-    writes::write(state, w, image, list, k + 1, a, made.value);
+    writes::write(Purpose::Wasted, state, w, image, list, k, a, v);
+    writes::write(Purpose::Data, state, w, image, list, k + 1, a, made.value);
     let after = made.flags;
     state::set_flags(state, after);
 }
@@ -96,7 +107,7 @@ fn change(o: Changing, at: Spot, state: &mut [u8], w: Wiring, image: &mut [u8], 
 {
     let k = at.count;
     let a = at.address;
-    let v = reads::read(state, w, image, list, k, a);
+    let v = reads::read(Purpose::Data, state, w, image, list, k, a);
     rewrite(o, k + 1, a, v, state, w, image, list);
 }
 
@@ -190,12 +201,20 @@ fn branch(
     let next = std::num::wrapping_add_u16(pc, 2);
     if taken(t, state[state::P]) {
         let to = bytes::target(next, o);
-        reads::read(state, w, image, list, 2, next);
+        reads::read(Purpose::Wasted, state, w, image, list, 2, next);
         if to / 256 == next / 256 {
             state::set_pc(state, to);
             return 3;
         }
-        reads::read(state, w, image, list, 3, next / 256 * 256 + to % 256);
+        reads::read(
+            Purpose::Wasted,
+            state,
+            w,
+            image,
+            list,
+            3,
+            next / 256 * 256 + to % 256,
+        );
         state::set_pc(state, to);
         return 4;
     }
@@ -394,15 +413,37 @@ fn fetch(state: &[u8], w: Wiring, image: &[u8], pc: u16) -> Bytes
     }
 }
 
+// What the byte behind the opcode is read for: an instruction of one byte wastes it.
+fn second_for(i: Instruction) -> Purpose
+    ensures { λ r. ⌜ r ≡ secondFor (sizeIn 2 i) ⌝ }
+{
+    match i {
+        Instruction::Read(_, _) => Purpose::Operand,
+        Instruction::Store(_, _) => Purpose::Operand,
+        Instruction::Change(_, _) => Purpose::Operand,
+        Instruction::Accumulator(_) => Purpose::Wasted,
+        Instruction::Implied(_) => Purpose::Wasted,
+        Instruction::AtStack(_) => Purpose::Wasted,
+        Instruction::Branch(_, _) => Purpose::Operand,
+        Instruction::Jump(_, _) => Purpose::Operand,
+        Instruction::JumpIndirect(_, _) => Purpose::Operand,
+        Instruction::Jsr(_) => Purpose::Operand,
+        Instruction::Brk => Purpose::Wasted,
+        Instruction::Txs => Purpose::Wasted,
+        Instruction::Cli => Purpose::Wasted,
+        Instruction::Undefined => Purpose::Wasted,
+    }
+}
+
 // The opcode and the byte behind it are listed.
-fn begin(f: Bytes, pc: u16, w: Wiring, list: &mut [u8])
+fn begin(i: Instruction, f: Bytes, pc: u16, w: Wiring, list: &mut [u8])
     requires { ⌜ 56 ≤ length (now list) ⌝ }
-    ensures { λ r. ⌜ ((s : State) (i : List ℕ) → Wired execution w (s .bus) → pc ≡ s .cpu .pc → Found f s i →
-        Goes (begun (s .cpu .pc)) 0 (s .bus) i (now (list .entry)) (f .low) 2 (s .bus) i (now (list .exit))) ⌝ }
+    ensures { λ r. ⌜ ((s : State) (m : List ℕ) → Wired execution w (s .bus) → pc ≡ s .cpu .pc → Found f s m →
+        Goes (begun (sizeIn 2 i) (s .cpu .pc)) 0 (s .bus) m (now (list .entry)) (f .low) 2 (s .bus) m (now (list .exit))) ⌝ }
 {
     let one = std::num::wrapping_add_u16(pc, 1);
-    listing::note(list, 0, pc, w.bank, f.opcode, 0);
-    listing::note(list, 1, one, w.bank, f.low, 0);
+    listing::note_read(Purpose::Opcode, list, 0, pc, w.bank, f.opcode);
+    listing::note_read(second_for(i), list, 1, one, w.bank, f.low);
 }
 
 // The instruction at PC. Answers the accesses made, or 0 where the opcode is undefined: then nothing has changed.
@@ -419,6 +460,6 @@ pub fn instruction(pins: u8, state: &mut [u8], image: &mut [u8], list: &mut [u8]
     if let Instruction::Undefined = i {
         return 0;
     }
-    begin(f, pc, w, list);
+    begin(i, f, pc, w, list);
     perform(i, pc, state, w, image, list)
 }

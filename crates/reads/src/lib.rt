@@ -1,6 +1,7 @@
 // Reads on the bus of the three parts: one at a time, each listed at its cycle's place, and an address by two. The state is the
 // record's sixteen bytes.
 
+use rules::Purpose;
 use wiring::Wiring;
 ghost use Prim.Native.Nat.{_+_, _-_, _≤_, _<_};
 ghost use mathlib.Core.Path.{_≡_};
@@ -52,19 +53,28 @@ pub fn look(state: &[u8], w: Wiring, image: &[u8], a: u16) -> u8
 }
 
 // One read cycle, the step's k-th.
-pub fn read(state: &[u8], w: Wiring, image: &[u8], list: &mut [u8], k: usize, a: u16) -> u8
+pub fn read(
+    purpose: Purpose,
+    state: &[u8],
+    w: Wiring,
+    image: &[u8],
+    list: &mut [u8],
+    k: usize,
+    a: u16,
+) -> u8
     requires { ⌜ (k < 7) × Ready w (length (now state)) (length (now image)) (length (now list)) ⌝ }
     ensures { λ r. ⌜ ((s : State) (κ : Bank) → Stands κ s (now (state .entry)) w →
-        Goes (read κ a done) k (s .bus) (now (image .entry)) (now (list .entry)) r (k + 1) (s .bus) (now (image .entry))
+        Goes (read purpose κ a done) k (s .bus) (now (image .entry)) (now (list .entry)) r (k + 1) (s .bus) (now (image .entry))
         (now (list .exit))) ⌝ }
 {
     let v = look(state, w, image, a);
-    listing::note(list, k, a, w.bank, v, 0);
+    listing::note_read(purpose, list, k, a, w.bank, v);
     v
 }
 
 // An address from two places.
 pub fn word_at(
+    purpose: Purpose,
     state: &[u8],
     w: Wiring,
     image: &[u8],
@@ -75,10 +85,10 @@ pub fn word_at(
 ) -> u16
     requires { ⌜ (k < 6) × Ready w (length (now state)) (length (now image)) (length (now list)) ⌝ }
     ensures { λ r. ⌜ ((t : State) → Stands execution t (now (state .entry)) w →
-        Goes (wordAt one two) k (t .bus) (now (image .entry)) (now (list .entry)) r (k + 2) (t .bus) (now (image .entry))
+        Goes (wordAt purpose one two) k (t .bus) (now (image .entry)) (now (list .entry)) r (k + 2) (t .bus) (now (image .entry))
         (now (list .exit))) ⌝ }
 {
-    let low = read(state, w, image, list, k, one);
-    let high = read(state, w, image, list, k + 1, two);
+    let low = read(purpose, state, w, image, list, k, one);
+    let high = read(purpose, state, w, image, list, k + 1, two);
     bytes::join(low, high)
 }

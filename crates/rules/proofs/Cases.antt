@@ -14,7 +14,7 @@ use Rattle.rules.specs.Run.{runOf}
 use Rattle.rules.specs.Restart.{restart, appendAt}
 use Rattle.rules.proofs.Opened.{opened}
 use Rattle.rules.proofs.Examples.{same, failing, zeros, _from_holds_, state, registers, tried, runs, on, results, reads, writes}
-use Rattle.rules.proofs.Examples.{keeps}
+use Rattle.rules.proofs.Examples.{keeps, isFor}
 
 -- PC after a step
 abbrev pcIs : Outcome StepAnswer Chart → ℕ → ℕ → Bool
@@ -133,7 +133,7 @@ steps =
     ∷ (let r = registers 2 0 (state 9 7 0 0xFF 0x20 0x8000) in
     let m = zeros 4 from 0x28000 holds (0xE6 ∷ 0x00 ∷ []) from 0x38002 holds (0xEA ∷ []) in
     same (take 8 (drop 40 (runOf charts r m (replicate 4 0) (replicate 112 0) .accesses)))
-    (0x02 ∷ 0x80 ∷ 3 ∷ 0xEA ∷ 0 ∷ 0 ∷ 0 ∷ 0 ∷ []))
+    (0x02 ∷ 0x80 ∷ 3 ∷ 0xEA ∷ 0 ∷ 1 ∷ 0 ∷ 0 ∷ []))
     -- 50 decimal, C = 0: 12 + 11: 23, low digits alone make L; 05 + 05: 10, L is 10; 40 + 40: 80, N, V; 50 + 50: 00, T is 160, C, N, V
     ∷ results (on 0x12 0 0 0x28 (0x69 ∷ 0x11 ∷ [])) 2 0x23 0 0x28
     ∷ results (on 0x05 0 0 0x28 (0x69 ∷ 0x05 ∷ [])) 2 0x10 0 0x28
@@ -171,6 +171,55 @@ steps =
 computed-steps : failing 1 steps ≡ []
 unfolding opened
 computed-steps = refl
+
+-- "What each access was for": 1 opcode, 2 operand, 3 wasted, 4 pointer, 5 data, 6 stack, 7 vector
+abbrev purposes : List Bool
+purposes =
+    -- 1 an operand: a byte, immediate, and an address, of a jump too
+    isFor (on 7 0 0xFF 0x20 (0xA9 ∷ 0x00 ∷ [])) (1 ∷ 2 ∷ [])
+    ∷ isFor (on 7 0 0xFF 0x20 (0xA5 ∷ 0x10 ∷ [])) (1 ∷ 2 ∷ 5 ∷ [])
+    ∷ isFor (on 7 0 0xFF 0x20 (0x8D ∷ 0x00 ∷ 0x02 ∷ [])) (1 ∷ 2 ∷ 2 ∷ 5 ∷ [])
+    ∷ isFor (on 7 0 0xFF 0x20 (0x4C ∷ 0x00 ∷ 0x02 ∷ [])) (1 ∷ 2 ∷ 2 ∷ [])
+    -- 5 "each read whose value the step doesn't use": PC+1 of NOP, ASL A, TXS, CLI; z,X unindexed
+    ∷ isFor (on 7 0 0xFF 0x20 (0xEA ∷ [])) (1 ∷ 3 ∷ [])
+    ∷ isFor (on 7 0 0xFF 0x20 (0x0A ∷ [])) (1 ∷ 3 ∷ [])
+    ∷ isFor (on 7 0 0xFF 0x20 (0x9A ∷ [])) (1 ∷ 3 ∷ [])
+    ∷ isFor (on 7 0 0xFF 0x20 (0x58 ∷ [])) (1 ∷ 3 ∷ [])
+    ∷ isFor (on 7 0 0xFF 0x20 (0xB5 ∷ 0x10 ∷ [])) (1 ∷ 2 ∷ 3 ∷ 5 ∷ [])
+    -- 10 a,X: a load that stops at its first read, one that crosses, a store
+    ∷ isFor (on 7 0 0xFF 0x20 (0xBD ∷ 0xFF ∷ 0x80 ∷ [])) (1 ∷ 2 ∷ 2 ∷ 5 ∷ [])
+    ∷ isFor (on 7 1 0xFF 0x20 (0xBD ∷ 0xFF ∷ 0x80 ∷ [])) (1 ∷ 2 ∷ 2 ∷ 3 ∷ 5 ∷ [])
+    ∷ isFor (on 7 0 0xFF 0x20 (0x9D ∷ 0x00 ∷ 0x02 ∷ [])) (1 ∷ 2 ∷ 2 ∷ 3 ∷ 5 ∷ [])
+    -- 13 pointers: (z,X), (z),Y with and without a crossing, its store, JMP (a)
+    ∷ isFor (on 7 0 0xFF 0x20 (0xA1 ∷ 0x10 ∷ [])) (1 ∷ 2 ∷ 3 ∷ 4 ∷ 4 ∷ 5 ∷ [])
+    ∷ isFor (on 7 0 0xFF 0x20 (0xB1 ∷ 0x10 ∷ [])) (1 ∷ 2 ∷ 4 ∷ 4 ∷ 5 ∷ [])
+    ∷ isFor (runs (set (state 2 7 0 0xFF 0x20 0x8000) 3 1)
+    (zeros 1 from 0x8000 holds (0xB1 ∷ 0x10 ∷ []) from 0x0010 holds (0xFF ∷ []))) (1 ∷ 2 ∷ 4 ∷ 4 ∷ 3 ∷ 5 ∷ [])
+    ∷ isFor (on 7 0 0xFF 0x20 (0x91 ∷ 0x10 ∷ [])) (1 ∷ 2 ∷ 4 ∷ 4 ∷ 3 ∷ 5 ∷ [])
+    ∷ isFor (on 7 0 0xFF 0x20 (0x6C ∷ 0x00 ∷ 0x02 ∷ [])) (1 ∷ 2 ∷ 2 ∷ 4 ∷ 4 ∷ [])
+    -- 18 "The write-back of an old value is 3": INC z, ASL a,X
+    ∷ isFor (on 7 0 0xFF 0x20 (0xE6 ∷ 0x10 ∷ [])) (1 ∷ 2 ∷ 5 ∷ 3 ∷ 5 ∷ [])
+    ∷ isFor (on 7 0 0xFF 0x20 (0x1E ∷ 0x00 ∷ 0x02 ∷ [])) (1 ∷ 2 ∷ 2 ∷ 3 ∷ 5 ∷ 3 ∷ 5 ∷ [])
+    -- 20 the stack: PHA, PLA, JSR, whose high byte comes last, RTS, RTI
+    ∷ isFor (on 7 0 0xFF 0x20 (0x48 ∷ [])) (1 ∷ 3 ∷ 6 ∷ [])
+    ∷ isFor (on 7 0 0xFF 0x20 (0x68 ∷ [])) (1 ∷ 3 ∷ 3 ∷ 6 ∷ [])
+    ∷ isFor (on 7 0 0xFF 0x20 (0x20 ∷ 0x00 ∷ 0x02 ∷ [])) (1 ∷ 2 ∷ 3 ∷ 6 ∷ 6 ∷ 2 ∷ [])
+    ∷ isFor (on 7 0 0xFF 0x20 (0x60 ∷ [])) (1 ∷ 3 ∷ 3 ∷ 6 ∷ 6 ∷ 3 ∷ [])
+    ∷ isFor (on 7 0 0xFF 0x20 (0x40 ∷ [])) (1 ∷ 3 ∷ 3 ∷ 6 ∷ 6 ∷ 6 ∷ [])
+    -- 25 "a branch's offset is 2": not taken, taken, taken into another page
+    ∷ isFor (on 7 0 0xFF 0x20 (0xF0 ∷ 0x10 ∷ [])) (1 ∷ 2 ∷ [])
+    ∷ isFor (on 7 0 0xFF 0x20 (0xD0 ∷ 0x10 ∷ [])) (1 ∷ 2 ∷ 3 ∷ [])
+    ∷ isFor (on 7 0 0xFF 0x20 (0xD0 ∷ 0x80 ∷ [])) (1 ∷ 2 ∷ 3 ∷ 3 ∷ [])
+    -- 28 BRK; IRQ and NMI; "a reset's three stack reads are 6"
+    ∷ isFor (on 7 0 0xFF 0x20 (0x00 ∷ [])) (1 ∷ 3 ∷ 6 ∷ 6 ∷ 6 ∷ 7 ∷ 7 ∷ [])
+    ∷ isFor (tried (state 2 7 0 0xFF 0x20 0x8000) (zeros 1) 4 0) (3 ∷ 3 ∷ 6 ∷ 6 ∷ 6 ∷ 7 ∷ 7 ∷ [])
+    ∷ isFor (tried (state 2 7 0 0xFF 0x20 0x8000) (zeros 1) 2 0) (3 ∷ 3 ∷ 6 ∷ 6 ∷ 6 ∷ 7 ∷ 7 ∷ [])
+    ∷ isFor (tried (state 2 7 0 0xFF 0x20 0x8000) (zeros 1) 1 0) (3 ∷ 3 ∷ 6 ∷ 6 ∷ 6 ∷ 7 ∷ 7 ∷ [])
+    ∷ []
+
+computed-purposes : failing 1 purposes ≡ []
+unfolding opened
+computed-purposes = refl
 
 abbrev refusals : List Bool
 refusals =

@@ -1,6 +1,6 @@
 -- "Starred ones are proved of the rules as one list under a single claim". They are computed on charts; Images.antt carries a step to
 -- images.
-use Prim.Native.Nat.{ℕ, suc, _*_, _/_, _%_}
+use Prim.Native.Nat.{ℕ, suc, _+_, _*_, _/_, _%_}
 use Prim.Native.Char.{code}
 use Prim.Native.String.{String, [] as none, _∷_ as _then_}
 use mathlib.Core.Path.{_≡_, refl}
@@ -64,13 +64,21 @@ results o n a s p = same (stepWord (o .answer) ∷ at (o .state) 1 ∷ at (o .st
 
 -- its access k, counted from 0, was a read or a write of v at p, with this bank selected
 abbrev pub accessed : ℕ → Outcome StepAnswer Chart → ℕ → ℕ → ℕ → ℕ → Bool
-accessed kind o k p bank v = same (take 8 (drop (8 * k) (o .accesses))) (p % 256 ∷ p / 256 ∷ bank ∷ v ∷ kind ∷ 0 ∷ 0 ∷ 0 ∷ [])
+accessed kind o k p bank v = same (take 5 (drop (8 * k) (o .accesses))) (p % 256 ∷ p / 256 ∷ bank ∷ v ∷ kind ∷ [])
 
 abbrev pub reads : Outcome StepAnswer Chart → ℕ → ℕ → ℕ → ℕ → Bool
 reads = accessed 0
 
 abbrev pub writes : Outcome StepAnswer Chart → ℕ → ℕ → ℕ → ℕ → Bool
 writes = accessed 1
+
+-- from access k on, its accesses were for these purposes, and there were no more; bytes 6 and 7 of each are zero
+abbrev pub purposed : ℕ → Outcome StepAnswer Chart → List ℕ → Bool
+purposed k o [] = eqb (stepWord (o .answer)) (256 * k)
+purposed k o (u ∷ us) = same (take 3 (drop (8 * k + 5) (o .accesses))) (u ∷ 0 ∷ 0 ∷ []) && purposed (suc k) o us
+
+abbrev pub isFor : Outcome StepAnswer Chart → List ℕ → Bool
+isFor = purposed 0
 
 -- the image then holds v at place p
 abbrev pub keeps : Outcome StepAnswer Chart → ℕ → ℕ → Bool

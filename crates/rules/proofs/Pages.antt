@@ -54,12 +54,12 @@ counts =
     ∷ answers (0 ∷ []) 20
     ∷ answers (take 4 reading) 20
     ∷ answers (reading ++ 0 ∷ []) 20
-    -- 11 "byte 4 above 1 or bytes 5 to 7 not zero gives 21", at any record; other bytes are free
+    -- 11 "byte 4 above 1", "byte 5 as 0 to 7 .. and bytes 6 and 7 as zero", at any record; other bytes are free
     ∷ answers (set reading 4 2) 21
-    ∷ answers (set reading 5 1) 21
+    ∷ answers (set reading 5 8) 21
     ∷ answers (reading ++ set reading 6 1) 21
     ∷ answers (set reading 7 0x80 ++ reading) 21
-    ∷ answers (0xFF ∷ 0xFF ∷ 0xFF ∷ 0xFF ∷ 1 ∷ 0 ∷ 0 ∷ 0 ∷ []) 0
+    ∷ answers (0xFF ∷ 0xFF ∷ 0xFF ∷ 0xFF ∷ 1 ∷ 7 ∷ 0 ∷ 0 ∷ []) 0
     -- 16 "a total of all counts that would pass 64 bits gives 22": the last that fits, the first that does not, counts that passed already
     ∷ leaves (fed (lent (2 ^ 64 - 2)) none reading) 0 (2 ^ 64 - 1) 0 0 0
     ∷ leaves (fed (lent (2 ^ 64 - 2)) (lent 1) reading) 22 (2 ^ 64 - 2) 1 0 0
@@ -67,7 +67,7 @@ counts =
     ∷ leaves (fed (lent (2 ^ 64 - 1)) none []) 0 (2 ^ 64 - 1) 0 0 0
     -- 20 "in that order, and the counts stay"
     ∷ leaves (fed (lent 3) (lent 4) (set reading 4 2 ++ 0 ∷ [])) 20 3 4 0 0
-    ∷ leaves (fed (lent (2 ^ 64 - 1)) none (reading ++ set reading 5 1)) 21 (2 ^ 64 - 1) 0 0 0
+    ∷ leaves (fed (lent (2 ^ 64 - 1)) none (reading ++ set reading 5 8)) 21 (2 ^ 64 - 1) 0 0 0
     ∷ leaves (fed (lent (2 ^ 64 - 1)) none (take 7 reading)) 20 (2 ^ 64 - 1) 0 0 0
     -- 23 the report: "one line per page with any traffic, then the total"; a refusal
     ∷ prints (countingOf []) "T 0\n"

@@ -6,6 +6,8 @@ use lib.Dec.{ltb, leb, eqb}
 use lib.Bits.{bitAnd, bitOr}
 use lib.ListN.{length, set}
 use Rattle.rules.specs.declared.Bus.{Bus}
+use Rattle.rules.specs.declared.Purpose.{Purpose}
+use Rattle.rules.specs.declared.Purpose.the-variants.{Opcode, Operand, Wasted, Pointer, Data, Stack, Vector}
 use Rattle.rules.specs.Basics.{if_then_else_, at}
 use Rattle.rules.specs.Cycles.{Bank, execution, indirect, Device, Access}
 
@@ -108,9 +110,20 @@ module _ {M : Type 0} (memory : Memory M) where
   abbrev pub board : Device (World M)
   board = record { bank = λ w. selected (w .bus); look = look; stored = stored }
 
--- "8 bytes: address low, high, selected bank before the modulo (0 unless 6509), value, 0 read or 1 write, three zeros"
+-- document 02: "1 opcode, 2 operand, 3 wasted, 4 pointer, 5 data, 6 stack, 7 vector"
+abbrev pub purposeNumber : Purpose → ℕ
+purposeNumber Opcode = 1
+purposeNumber Operand = 2
+purposeNumber Wasted = 3
+purposeNumber Pointer = 4
+purposeNumber Data = 5
+purposeNumber Stack = 6
+purposeNumber Vector = 7
+
+-- "8 bytes: address low, high, selected bank before the modulo (0 unless 6509), value, 0 read or 1 write, three zeros"; document 02:
+-- "Byte 5 of each access record becomes its purpose"
 abbrev pub bytesOf : Access → List ℕ
-bytesOf a = a .address % 256 ∷ a .address / 256 ∷ a .bank ∷ a .value ∷ a .kind ∷ 0 ∷ 0 ∷ 0 ∷ []
+bytesOf a = a .address % 256 ∷ a .address / 256 ∷ a .bank ∷ a .value ∷ a .kind ∷ purposeNumber (a .purpose) ∷ 0 ∷ 0 ∷ []
 
 unfoldable pub listOf : List Access → List ℕ
 listOf [] = []

@@ -4,6 +4,7 @@ use mathlib.Core.Bool.{Bool, not, _&&_}
 use Rattle.rules.specs.declared.Cpu.{Cpu}
 use Rattle.rules.specs.declared.Event.{Event}
 use Rattle.rules.specs.declared.Event.the-variants.{Res, Nmi, Irq, Execute}
+use Rattle.rules.specs.declared.Purpose.the-variants.{Wasted, Stack}
 use Rattle.rules.specs.Basics.{if_then_else_, bitOf}
 use Rattle.rules.specs.Cycles.{Cycles, _>>=_, _>>_}
 use Rattle.rules.specs.Flags.{byteOf}
@@ -28,20 +29,20 @@ eventOf lines last c =
 -- "IRQ, NMI: read PC twice, push PC high, low, P (bit 4 clear), read the vector (FFFE, FFFA), set I."
 unfoldable pub interrupt : ℕ → Cpu → Cycles Cpu
 interrupt vector c = do
-  get (c .pc)
-  get (c .pc)
+  get Wasted (c .pc)
+  get Wasted (c .pc)
   pushPc (c .pc) (c .s)
-  put (stack (down 2 (c .s))) (byteOf (c .p))
+  put Stack (stack (down 2 (c .s))) (byteOf (c .p))
   enter vector c
 
 -- "RES: the same with three stack reads in place of pushes, S lowered by 3, vector FFFC, I set, D kept"
 unfoldable pub reset : Cpu → Cycles Cpu
 reset c = do
-  get (c .pc)
-  get (c .pc)
-  get (stack (c .s))
-  get (stack (down 1 (c .s)))
-  get (stack (down 2 (c .s)))
+  get Wasted (c .pc)
+  get Wasted (c .pc)
+  get Stack (stack (c .s))
+  get Stack (stack (down 1 (c .s)))
+  get Stack (stack (down 2 (c .s)))
   enter 0xFFFC c
 
 -- a step's accesses

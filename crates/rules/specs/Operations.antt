@@ -19,6 +19,7 @@ use Rattle.rules.specs.declared.Stacking.the-variants.{Php, Plp, Pha, Pl
 use Rattle.rules.specs.declared.Instruction.{Instruction}
 use Rattle.rules.specs.declared.Instruction.the-variants.{Read, Store, Change, Accumulator, Implied, AtStack, Branch, Jump}
 use Rattle.rules.specs.declared.Instruction.the-variants.{JumpIndirect, Jsr, Brk, Txs, Cli, Undefined}
+use Rattle.rules.specs.declared.Purpose.the-variants.{Opcode, Operand, Wasted, Pointer, Data, Stack, Vector}
 use Rattle.rules.specs.Basics.{if_then_else_, address, sum8, sum16}
 use Rattle.rules.specs.Cycles.{Cycles, done, write, _>>=_, _>>_}
 use Rattle.rules.specs.Flags.{byteOf4, flagsOf, nz, withV, withD, withI, withC}
@@ -106,8 +107,8 @@ target next o = (next + signed o + 65408) % 65536
 -- target's low byte"
 unfoldable pub branchTo : ℕ → Cpu → Cycles Cpu
 branchTo to c =
-    get (c .pc) >>
-    (if eqb (to / 256) (c .pc / 256) then done (withPc to c) else get (c .pc / 256 * 256 + to % 256) >> done (withPc to c))
+    get Wasted (c .pc) >>
+    (if eqb (to / 256) (c .pc / 256) then done (withPc to c) else get Wasted (c .pc / 256 * 256 + to % 256) >> done (withPc to c))
 
 -- the stack's byte at S, and S lowered by k
 abbrev pub stack : ℕ → ℕ
@@ -118,49 +119,49 @@ down k s = (s + 256 - k) % 256
 
 -- "push PC high, low"
 abbrev pub pushPc : ℕ → ℕ → Cycles (Unit {0})
-pushPc pc s = put (stack s) (pc / 256) >> put (stack (down 1 s)) (pc % 256)
+pushPc pc s = put Stack (stack s) (pc / 256) >> put Stack (stack (down 1 s)) (pc % 256)
 
 -- how BRK, an interrupt and a reset end: S is lower by 3, "read the vector", "set I"
 unfoldable pub enter : ℕ → Cpu → Cycles Cpu
 enter vector c = do
-  to ← wordAt vector (vector + 1)
+  to ← wordAt Vector vector (vector + 1)
   done (withPc to (withP (withI true (c .p)) (withS (down 3 (c .s)) c)))
 
 -- "Push: PC+1, write at S."
 unfoldable pub push : ℕ → Cpu → Cycles Cpu
-push v c = put (stack (c .s)) v >> done (withS (down 1 (c .s)) c)
+push v c = put Stack (stack (c .s)) v >> done (withS (down 1 (c .s)) c)
 
 -- "Pull: PC+1, read at S, read at S+1."
 unfoldable pub pull : (ℕ → Cpu → Cpu) → Cpu → Cycles Cpu
 pull f c = do
-  get (stack (c .s))
-  v ← get (stack (sum8 (c .s) 1))
+  get Wasted (stack (c .s))
+  v ← get Stack (stack (sum8 (c .s) 1))
   done (f v (withS (sum8 (c .s) 1) c))
 
 -- "JSR: low, read at S, push PC+2 high, low, then high operand." PC now stands at PC+2.
 unfoldable pub jsr : ℕ → Cpu → Cycles Cpu
 jsr low c = do
-  get (stack (c .s))
+  get Wasted (stack (c .s))
   pushPc (c .pc) (c .s)
-  high ← get (c .pc)
+  high ← get Operand (c .pc)
   done (withPc (address low high) (withS (down 2 (c .s)) c))
 
 -- "RTS: PC+1, read at S, pull low, high, read there; PC is one more."
 unfoldable pub rts : Cpu → Cycles Cpu
 rts c = do
-  get (stack (c .s))
-  low ← get (stack (sum8 (c .s) 1))
-  high ← get (stack (sum8 (c .s) 2))
-  get (address low high)
+  get Wasted (stack (c .s))
+  low ← get Stack (stack (sum8 (c .s) 1))
+  high ← get Stack (stack (sum8 (c .s) 2))
+  get Wasted (address low high)
   done (withPc (sum16 (address low high) 1) (withS (sum8 (c .s) 2) c))
 
 -- "RTI: PC+1, read at S, pull P, low, high."
 unfoldable pub rti : Cpu → Cycles Cpu
 rti c = do
-  get (stack (c .s))
-  p ← get (stack (sum8 (c .s) 1))
-  low ← get (stack (sum8 (c .s) 2))
-  high ← get (stack (sum8 (c .s) 3))
+  get Wasted (stack (c .s))
+  p ← get Stack (stack (sum8 (c .s) 1))
+  low ← get Stack (stack (sum8 (c .s) 2))
+  high ← get Stack (stack (sum8 (c .s) 3))
   done (withPc (address low high) (withP (flagsOf p) (withS (sum8 (c .s) 3) c)))
 
 -- what is done at the stack
@@ -176,22 +177,22 @@ atStack Rti c = rti c
 unfoldable pub brk : Cpu → Cycles Cpu
 brk c = do
   pushPc (sum16 (c .pc) 1) (c .s)
-  put (stack (down 2 (c .s))) (byteOf4 (c .p))
+  put Stack (stack (down 2 (c .s))) (byteOf4 (c .p))
   enter 0xFFFE c
 
 -- "JMP (a): two operands, pointer"; document 02: "the second pointer byte is read in the same page, low byte wrapped"
 unfoldable pub jumpIndirect : ℕ → Cpu → Cycles Cpu
-jumpIndirect a c = wordAt a (oldPage a 1) >>= λ to. done (withPc to c)
+jumpIndirect a c = wordAt Pointer a (oldPage a 1) >>= λ to. done (withPc to c)
 
 unfoldable pub perform : Instruction → Cpu → Cycles Cpu
 perform (Read o m) c = load c m >>= λ v. done (used o v c)
-perform (Store o m) c = place c m >>= λ p. write (bankOf m) p (registerOf o c) (done c)
+perform (Store o m) c = place c m >>= λ p. write Data (bankOf m) p (registerOf o c) (done c)
 perform (Change o m) c = do
   -- "Shift/INC/DEC: read data, write it back, write the result."
   p ← place c m
-  v ← get p
-  put p v
-  put p (changed o v (c .p) .value)
+  v ← get Data p
+  put Wasted p v
+  put Data p (changed o v (c .p) .value)
   done (withP (changed o v (c .p) .flags) c)
 perform (Accumulator o) c = done (withResult (changed o (c .a) (c .p)) c)
 perform (Implied o) c = done (inside o c)
@@ -212,11 +213,11 @@ onward c = withPc (sum16 (c .pc) 1) c
 -- the operand, or "Implied, A: read PC+1", and the instruction
 unfoldable pub operate : Entry → Cpu → Cycles Cpu
 operate undefined c = done c
-operate (alone i) c = get (c .pc) >> perform i c
-operate (byte f) c = get (c .pc) >>= λ v. perform (f v) (onward c)
-operate (word f) c = get (c .pc) >>= λ low. get (onward c .pc) >>= λ high. perform (f low high) (onward (onward c))
-operate (late f) c = get (c .pc) >>= λ low. perform (f low) (onward c)
+operate (alone i) c = get Wasted (c .pc) >> perform i c
+operate (byte f) c = get Operand (c .pc) >>= λ v. perform (f v) (onward c)
+operate (word f) c = get Operand (c .pc) >>= λ low. get Operand (onward c .pc) >>= λ high. perform (f low high) (onward (onward c))
+operate (late f) c = get Operand (c .pc) >>= λ low. perform (f low) (onward c)
 
 -- the instruction at PC
 unfoldable pub instruction : Cpu → Cycles Cpu
-instruction c = get (c .pc) >>= λ op. operate (decode op) (onward c)
+instruction c = get Opcode (c .pc) >>= λ op. operate (decode op) (onward c)

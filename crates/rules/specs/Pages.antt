@@ -13,17 +13,18 @@ use Rattle.rules.specs.Basics.{if_then_else_, all, at}
 use Rattle.rules.specs.Answers.{Test, _unless_, tested, countWord}
 use Rattle.rules.specs.Text.{hex, spaced, each, numberLine, refusalLine}
 
--- Record k of a list begins at byte 8 * k: "address low, high, selected bank .. value, 0 read or 1 write, three zeros". "On the 6509
--- banks are ignored."
+-- Record k of a list begins at byte 8 * k: "address low, high, selected bank .. value, 0 read or 1 write", its purpose and two zeros. "On
+-- the 6509 banks are ignored."
 abbrev pub pageOf : List ℕ → ℕ → ℕ
 pageOf l k = at l (8 * k + 1)
 
 abbrev pub kindOf : List ℕ → ℕ → ℕ
 kindOf l k = at l (8 * k + 4)
 
--- "a record with byte 4 above 1 or bytes 5 to 7 not zero gives 21"
+-- "a record with byte 4 above 1 or bytes 5 to 7 not zero gives 21", which "now judges byte 5 as 0 to 7, where 0 is a list from before this
+-- change, and bytes 6 and 7 as zero"
 abbrev pub isRecord : List ℕ → ℕ → Bool
-isRecord l k = let p = 8 * k in leb (at l (p + 4)) 1 && eqb (at l (p + 5)) 0 && eqb (at l (p + 6)) 0 && eqb (at l (p + 7)) 0
+isRecord l k = let p = 8 * k in leb (at l (p + 4)) 1 && leb (at l (p + 5)) 7 && eqb (at l (p + 6)) 0 && eqb (at l (p + 7)) 0
 
 -- one more at a page
 abbrev pub raised : List ℕ → ℕ → List ℕ

@@ -40,14 +40,16 @@ each (suc n) f = each n f ++ f n
 abbrev pub letter : ℕ → ℕ
 letter kind = if eqb kind 0 then code "R" else code "W"
 
--- "R or W, bank (one hexadecimal digit), address, value"; a bank is "four bits"
-unfoldable pub accessLine : ℕ → ℕ → ℕ → ℕ → ℕ → List ℕ
-accessLine kind bank high low value =
-    letter kind ∷ code " " ∷ digit (bank % 16) ∷ code " " ∷ hex high ++ hex low ++ code " " ∷ hex value ++ code "\n" ∷ []
+-- "R or W, bank (one hexadecimal digit), address, value"; a bank is "four bits". Document 02: the purpose, "the digit last on each access
+-- line".
+unfoldable pub accessLine : ℕ → ℕ → ℕ → ℕ → ℕ → ℕ → List ℕ
+accessLine kind bank high low value purpose =
+    letter kind ∷ code " " ∷ digit (bank % 16) ∷ code " " ∷ hex high ++ hex low ++ code " " ∷ hex value ++
+    code " " ∷ digit (purpose % 16) ∷ code "\n" ∷ []
 
--- that of access k of a list: "address low, high, selected bank .. value, 0 read or 1 write"
+-- that of access k of a list: "address low, high, selected bank .. value, 0 read or 1 write", and its purpose
 abbrev pub lineOf : List ℕ → ℕ → List ℕ
-lineOf l k = let p = 8 * k in accessLine (at l (p + 4)) (at l (p + 2)) (at l (p + 1)) (at l p) (at l (p + 3))
+lineOf l k = let p = 8 * k in accessLine (at l (p + 4)) (at l (p + 2)) (at l (p + 1)) (at l p) (at l (p + 3)) (at l (p + 5))
 
 -- a space and a number
 abbrev pub spaced : ℕ → List ℕ

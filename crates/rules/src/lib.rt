@@ -155,6 +155,17 @@ pub enum Instruction {
     Undefined,
 }
 
+// What an access is for: document 02, "What each access was for".
+pub enum Purpose {
+    Opcode,
+    Operand,
+    Wasted,
+    Pointer,
+    Data,
+    Stack,
+    Vector,
+}
+
 // What a step takes.
 pub enum Event {
     Res,

@@ -1,5 +1,6 @@
 // BRK, and what the interrupts have in common with it; RES ends as they do. Each access has its number in the step.
 
+use rules::Purpose;
 use wiring::Wiring;
 ghost use Prim.Native.Nat.{_<_};
 ghost use lib.ListN.{length};
@@ -30,7 +31,16 @@ pub fn enter(vector: u16, state: &mut [u8], w: Wiring, image: &[u8], list: &mut 
 {
     let s = state[state::S];
     let f = flags::with_i(true, state::flags_of(state));
-    let to = reads::word_at(state, w, image, list, 5, vector, vector + 1);
+    let to = reads::word_at(
+        Purpose::Vector,
+        state,
+        w,
+        image,
+        list,
+        5,
+        vector,
+        vector + 1,
+    );
     state::set_flags(state, f);
     state::set_s(state, bytes::down(3, s));
     state::set_pc(state, to);

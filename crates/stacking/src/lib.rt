@@ -1,11 +1,13 @@
 // What is done at the stack: pushes, pulls, RTS and RTI, after PC+1 was read. One line a bus cycle, in the order of time.
 
+use rules::Purpose;
 use rules::Stacking;
 use wiring::Wiring;
 ghost use Prim.Native.Nat.{_+_, _≤_, _<_};
 ghost use mathlib.Core.Path.{_≡_};
 ghost use lib.ListN.{length};
 ghost use Rattle.rules.specs.declared.State.{State};
+ghost use Rattle.rules.specs.declared.Purpose.the-variants.{Stack};
 ghost use Rattle.rules.specs.declared.Stacking.the-variants.{Plp, Pla};
 ghost use Rattle.rules.specs.Basics.{sum8};
 ghost use Rattle.rules.specs.Cycles.{execution};
@@ -42,8 +44,8 @@ fn pulled(state: &[u8], w: Wiring, image: &[u8], list: &mut [u8], s: u8) -> u8
         Goes (pulledAt s) 2 (t .bus) (now (image .entry)) (now (list .entry)) r 4 (t .bus) (now (image .entry)) (now (list .exit))) ⌝ }
 {
     let above = bytes::stack(up(1, s));
-    reads::read(state, w, image, list, 2, bytes::stack(s));
-    reads::read(state, w, image, list, 3, above)
+    reads::read(Purpose::Wasted, state, w, image, list, 2, bytes::stack(s));
+    reads::read(Purpose::Stack, state, w, image, list, 3, above)
 }
 
 // "PLP, RTI keep 5 set, 4 clear"
@@ -84,12 +86,12 @@ fn set_s_pc(state: &mut [u8], s: u8, pc: u16)
 fn word_above(state: &[u8], w: Wiring, image: &[u8], list: &mut [u8], k: usize, s: u8) -> u16
     requires { ⌜ (k < 6) × Ready w (length (now state)) (length (now image)) (length (now list)) ⌝ }
     ensures { λ r. ⌜ ((t : State) → Stands execution t (now (state .entry)) w →
-        Goes (wordAt (stack (sum8 s 1)) (stack (sum8 s 2))) k (t .bus) (now (image .entry)) (now (list .entry)) r (k + 2) (t .bus)
+        Goes (wordAt Stack (stack (sum8 s 1)) (stack (sum8 s 2))) k (t .bus) (now (image .entry)) (now (list .entry)) r (k + 2) (t .bus)
         (now (image .entry)) (now (list .exit))) ⌝ }
 {
     let one = bytes::stack(up(1, s));
     let two = bytes::stack(up(2, s));
-    reads::word_at(state, w, image, list, k, one, two)
+    reads::word_at(Purpose::Stack, state, w, image, list, k, one, two)
 }
 
 // "RTS: PC+1, read at S, pull low, high, read there; PC is one more."
@@ -100,9 +102,9 @@ fn rts(state: &mut [u8], w: Wiring, image: &[u8], list: &mut [u8])
         ⌝ }
 {
     let s = state[state::S];
-    reads::read(state, w, image, list, 2, bytes::stack(s));
+    reads::read(Purpose::Wasted, state, w, image, list, 2, bytes::stack(s));
     let a = word_above(state, w, image, list, 3, s);
-    reads::read(state, w, image, list, 5, a);
+    reads::read(Purpose::Wasted, state, w, image, list, 5, a);
     set_s_pc(state, up(2, s), std::num::wrapping_add_u16(a, 1));
 }
 
@@ -117,7 +119,7 @@ fn rti(state: &mut [u8], w: Wiring, image: &[u8], list: &mut [u8])
     let two = bytes::stack(up(2, s));
     let three = bytes::stack(up(3, s));
     let p = pulled(state, w, image, list, s);
-    let to = reads::word_at(state, w, image, list, 4, two, three);
+    let to = reads::word_at(Purpose::Stack, state, w, image, list, 4, two, three);
     state::set_flags(state, flags::flags_of(p));
     set_s_pc(state, up(3, s), to);
 }

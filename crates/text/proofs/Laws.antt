@@ -15,7 +15,7 @@ unfolding each
 each-length f w wide zero = omega arith
 each-length f w wide (suc n) = rw (length-append (each n f) (f n), each-length f w wide n, wide n) (omega arith)
 
-pub line-length : (l : List ℕ) (k : ℕ) → length (lineOf l k) ≡ 12
+pub line-length : (l : List ℕ) (k : ℕ) → length (lineOf l k) ≡ 14
 unfolding accessLine
 line-length l k = refl
 

@@ -25,15 +25,15 @@ unfolding numberLine digits
 count-length n h = rw (lt-ltb n 10 (omega arith))
 
 -- the lines of a step's accesses, its count and its record
-pub step-shown : (n p : ℕ) (r l t u v w : List ℕ) → n ≤ 7 → 123 ≤ length t →
-    u ≡ sets t 0 (each n (lineOf l)) → p ≡ 12 * n + length (countLine n) → v ≡ sets u (12 * n) (countLine n) →
+pub step-shown : (n p : ℕ) (r l t u v w : List ℕ) → n ≤ 7 → 137 ≤ length t →
+    u ≡ sets t 0 (each n (lineOf l)) → p ≡ 14 * n + length (countLine n) → v ≡ sets u (14 * n) (countLine n) →
     w ≡ sets v p (recordLine r) →
     Shows (stepText (Stepped n) r l) (p + 35) t w
 step-shown n p r l t u v w few room a e b d =
     let lines = each n (lineOf l) in
-    let wide = each-length (lineOf l) 12 (line-length l) n in
+    let wide = each-length (lineOf l) 14 (line-length l) n in
     let size : length (lines ++ countLine n ++ recordLine r) ≡ p + 35 = rw (length-append, length-append, record-length r) (omega arith) in
-    let i : 12 * n ≡ 0 + length lines = omega arith in
+    let i : 14 * n ≡ 0 + length lines = omega arith in
     let j : p ≡ 0 + length (lines ++ countLine n) = rw length-append (omega arith) in
     record {
       count = sym size;

@@ -24,9 +24,9 @@ fn letter(kind: u8) -> u8
     if kind == 0 { b'R' } else { b'W' }
 }
 
-// "R or W, bank (one hexadecimal digit), address, value"
-fn access_line(kind: u8, bank: u8, high: u8, low: u8, value: u8) -> [u8; 12]
-    ensures { λ r. ⌜ r ≡ accessLine kind bank high low value ⌝ }
+// "R or W, bank (one hexadecimal digit), address, value"; document 02: "the digit last on each access line"
+fn access_line(kind: u8, bank: u8, high: u8, low: u8, value: u8, purpose: u8) -> [u8; 14]
+    ensures { λ r. ⌜ r ≡ accessLine kind bank high low value purpose ⌝ }
 {
     [
         letter(kind),
@@ -40,6 +40,8 @@ fn access_line(kind: u8, bank: u8, high: u8, low: u8, value: u8) -> [u8; 12]
         b' ',
         characters::digit(value / 16),
         characters::digit(value % 16),
+        b' ',
+        characters::digit(purpose % 16),
         b'\n',
     ]
 }
@@ -70,21 +72,28 @@ fn record_of(input: &[u8]) -> [u8; 16]
 }
 
 // Access k of the list.
-fn line_of(list: &[u8], k: usize) -> [u8; 12]
+fn line_of(list: &[u8], k: usize) -> [u8; 14]
     requires { ⌜ 8 * k + 8 ≤ length (now list) ⌝ }
     ensures { λ r. ⌜ r ≡ lineOf (now (list .entry)) k ⌝ }
 {
     let p = 8 * k;
-    access_line(list[p + 4], list[p + 2], list[p + 1], list[p], list[p + 3])
+    access_line(
+        list[p + 4],
+        list[p + 2],
+        list[p + 1],
+        list[p],
+        list[p + 3],
+        list[p + 5],
+    )
 }
 
 fn put_accesses(text: &mut [u8], list: &[u8], n: usize)
-    requires { ⌜ (12 * n ≤ length (now text)) × (8 * n ≤ length (now list)) ⌝ }
+    requires { ⌜ (14 * n ≤ length (now text)) × (8 * n ≤ length (now list)) ⌝ }
     ensures { λ r. ⌜ now (text .exit) ≡ sets (now (text .entry)) 0 (each n (lineOf (now (list .entry)))) ⌝ }
 {
     let mut k = 0;
     while k < n {
-        characters::put(text, 12 * k, &line_of(list, k));
+        characters::put(text, 14 * k, &line_of(list, k));
         k += 1;
     }
 }
@@ -111,18 +120,18 @@ fn put_record(text: &mut [u8], at: usize, state: &[u8])
 }
 
 fn put_step(text: &mut [u8], n: u8, state: &[u8], list: &[u8]) -> usize
-    requires { ⌜ ((n ≤ 7) × (123 ≤ length (now text))) × ((length (now state) ≡ 16) × (56 ≤ length (now list))) ⌝ }
+    requires { ⌜ ((n ≤ 7) × (137 ≤ length (now text))) × ((length (now state) ≡ 16) × (56 ≤ length (now list))) ⌝ }
     ensures { λ r. ⌜ Shows (stepText (Stepped n) (now (state .entry)) (now (list .entry))) r (now (text .entry)) (now (text .exit)) ⌝ }
 {
     put_accesses(text, list, n as usize);
-    let at = characters::put_number(text, 12 * n as usize, b'N', n as u64);
+    let at = characters::put_number(text, 14 * n as usize, b'N', n as u64);
     put_record(text, at, state);
     at + 35
 }
 
 // A step's word: its low byte is 0, or the number of a refusal.
 fn put_answer(text: &mut [u8], word: u64, state: &[u8], list: &[u8]) -> usize
-    requires { ⌜ ((word % 256 ≡ 0 → word / 256 ≤ 7) × (123 ≤ length (now text)))
+    requires { ⌜ ((word % 256 ≡ 0 → word / 256 ≤ 7) × (137 ≤ length (now text)))
         × ((length (now state) ≡ 16) × (56 ≤ length (now list))) ⌝ }
     ensures { λ r. ⌜ ((a : StepAnswer) → word ≡ stepWord a →
         Shows (stepText a (now (state .entry)) (now (list .entry))) r (now (text .entry)) (now (text .exit))) ⌝ }
@@ -134,9 +143,9 @@ fn put_answer(text: &mut [u8], word: u64, state: &[u8], list: &[u8]) -> usize
     characters::put_number(text, 0, b'E', number)
 }
 
-// Puts the text for an input at the front of a buffer and answers its length. At most 123 bytes: seven accesses, the count, the record.
+// Puts the text for an input at the front of a buffer and answers its length. At most 137 bytes: seven accesses, the count, the record.
 // The input's image is left as the step leaves it.
-pub fn print(input: &mut [u8], text: &mut [u8; 123]) -> usize
+pub fn print(input: &mut [u8], text: &mut [u8; 137]) -> usize
     ensures { λ r. ⌜ printout r (now (input .exit)) (now (text .exit)) ≡ printing (now (input .entry)) (now (text .entry)) ⌝ }
 {
     if input.len() < 16 {

@@ -32,3 +32,8 @@ lent l p q i = (tt, ((p ∙ sym q) i, l i))
 pub both : {A L : Type 0} {x y : A × (List ℕ × L)} {e : A} {l : List ℕ} → x .1 .1 ≡ y .1 .1 → x .0 ≡ e → y .0 ≡ e →
     x .1 .0 ≡ l → y .1 .0 ≡ l → x ≡ y
 both r p q s t i = ((p ∙ sym q) i, ((s ∙ sym t) i, r i))
+
+-- one buffer was lent, as the second parameter, and nothing is answered
+pub lent-second : {L : Type 0} {x y : Unit {0} × (Unit {0} × (List ℕ × L))} {e : List ℕ} → x .1 .1 .1 ≡ y .1 .1 .1 →
+    x .1 .1 .0 ≡ e → y .1 .1 .0 ≡ e → x ≡ y
+lent-second l p q i = (tt, (tt, ((p ∙ sym q) i, l i)))

@@ -1,7 +1,10 @@
 -- Each access is listed in one way.
 use mathlib.Core.Path.{refl}
 use Rattle.listing.proofs as its
-use Rattle.unique.proofs.General.{Unique, lent}
+use Rattle.unique.proofs.General.{Unique, lent-second}
 
-pub note : Unique its.note.Kinds.ps its.note.Kinds.r its.note.Reads.Post
-note κs a x y = lent refl
+pub note-read : Unique its.note_read.Kinds.ps its.note_read.Kinds.r its.note_read.Reads.Post
+note-read κs a x y = lent-second refl
+
+pub note-write : Unique its.note_write.Kinds.ps its.note_write.Kinds.r its.note_write.Reads.Post
+note-write κs a x y = lent-second refl

@@ -13,9 +13,9 @@ pub look : (s : State) (κ : Bank) →
 look s κ κs a h x y p q = answer refl (p s κ h) (q s κ h)
 
 pub read : (s : State) (κ : Bank) →
-    UniqueWhere its.read.Kinds.ps its.read.Kinds.r (λ κs a. Stands κ s (now (a .0)) (a .1 .0)) its.read.Reads.Post
-read s κ κs a h x y p q j = let e = goes (p s κ h) (q s κ h) j in (e .value, (tt, (tt, (tt, (e .list, (tt, (tt, tt)))))))
+    UniqueWhere its.read.Kinds.ps its.read.Kinds.r (λ κs a. Stands κ s (now (a .1 .0)) (a .1 .1 .0)) its.read.Reads.Post
+read s κ κs a h x y p q j = let e = goes (p s κ h) (q s κ h) j in (e .value, (tt, (tt, (tt, (tt, (e .list, (tt, (tt, tt))))))))
 
 pub word-at : (s : State) → UniqueWhere its.word_at.Kinds.ps its.word_at.Kinds.r
-    (λ κs a. Stands execution s (now (a .0)) (a .1 .0)) its.word_at.Reads.Post
-word-at s κs a h x y p q j = let e = goes (p s h) (q s h) j in (e .value, (tt, (tt, (tt, (e .list, (tt, (tt, (tt, tt))))))))
+    (λ κs a. Stands execution s (now (a .1 .0)) (a .1 .1 .0)) its.word_at.Reads.Post
+word-at s κs a h x y p q j = let e = goes (p s h) (q s h) j in (e .value, (tt, (tt, (tt, (tt, (e .list, (tt, (tt, (tt, tt)))))))))

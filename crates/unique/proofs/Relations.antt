@@ -9,6 +9,7 @@ use lib.Seq.{sets}
 use Rattle.rules.specs.declared.Bus.{Bus}
 use Rattle.rules.specs.declared.Cpu.{Cpu}
 use Rattle.rules.specs.declared.State.{State}
+use Rattle.rules.specs.declared.Purpose.{Purpose}
 use Rattle.rules.specs.Cycles.{Bank, Cycles, Ran, run}
 use Rattle.rules.specs.Bus.{World, world, images, board, listOf}
 use Rattle.rules.specs.Record.{recordOf}
@@ -50,8 +51,8 @@ does {s = s} {n = n} {m = m} {i′ = i′} {l′ = l′} {i″ = i″} {l″ = l
     ∙ (ap (λ (o : End Cpu). left (o .count) (recordOf (moved (o .value) (o .bus) s)) (o .image) (o .list)) (goes (d .goes) (e .goes))
     ∙ (λ j. left m (sym (e .bytes) j) i″ l″))
 
-pub writes : {κ : Bank} {p v k : ℕ} {s : State} {i l r′ i′ l′ r″ i″ l″ : List ℕ} →
-    Writes κ p v k s i l r′ i′ l′ → Writes κ p v k s i l r″ i″ l″ → left {A = Unit {0}} tt r′ i′ l′ ≡ left tt r″ i″ l″
+pub writes : {why : Purpose} {κ : Bank} {p v k : ℕ} {s : State} {i l r′ i′ l′ r″ i″ l″ : List ℕ} →
+    Writes why κ p v k s i l r′ i′ l′ → Writes why κ p v k s i l r″ i″ l″ → left {A = Unit {0}} tt r′ i′ l′ ≡ left tt r″ i″ l″
 writes d e j = let o = goes (d .goes) (e .goes) j in left tt ((d .bytes ∙ sym (e .bytes)) j) (o .image) (o .list)
 
 -- the banks tell the length

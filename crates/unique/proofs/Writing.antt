@@ -8,9 +8,9 @@ use Rattle.unique.proofs.General.{UniqueWhere}
 use Rattle.unique.proofs.Relations.{goes, writes}
 
 pub write : (s : State) (κ : Bank) →
-    UniqueWhere its.write.Kinds.ps its.write.Kinds.r (λ κs a. Stands κ s (now (a .0)) (a .1 .0)) its.write.Reads.Post
+    UniqueWhere its.write.Kinds.ps its.write.Kinds.r (λ κs a. Stands κ s (now (a .1 .0)) (a .1 .1 .0)) its.write.Reads.Post
 write s κ κs a h x y p q j = let e =
-    writes (p s κ h) (q s κ h) j in (tt, (e .state, (tt, (e .image, (e .accesses, (tt, (tt, (tt, tt))))))))
+    writes (p s κ h) (q s κ h) j in (tt, (tt, (e .state, (tt, (e .image, (e .accesses, (tt, (tt, (tt, tt)))))))))
 
 pub push : (s : State) (κ : Bank) →
     UniqueWhere its.push.Kinds.ps its.push.Kinds.r (λ κs a. Stands κ s (now (a .0)) (a .1 .0)) its.push.Reads.Post

@@ -10,11 +10,12 @@ use lib.Dec.{eqb}
 use lib.Seq.{sets}
 use Rattle.rules.specs.declared.Bus.{Bus}
 use Rattle.rules.specs.declared.State.{State}
+use Rattle.rules.specs.declared.Purpose.{Purpose}
 use Rattle.rules.specs.Basics.{if_then_else_}
 use Rattle.rules.specs.Cycles.{Bank}
 use Rattle.rules.specs.Bus.{World, world, images, first, second, kept, isProtected, stored, bytesOf}
 use Rattle.rules.specs.Record.{recordOf}
-use Rattle.laws.specs.Goes.{busAfter, Writes}
+use Rattle.laws.specs.Goes.{access, busAfter, Writes}
 use Rattle.laws.specs.States.{moved}
 use Rattle.laws.proofs.Goes.{writes}
 use Rattle.wiring.specs.declared.Wiring.{Wiring}
@@ -55,25 +56,27 @@ store-register {κ} {w} {u} i p v q h some =
     low-kept u i (suc zero) v h = refl
     low-kept u i (suc (suc p)) v h = absurd (omega arith)
 
-abbrev noted : List ℕ → ℕ → ℕ → ℕ → ℕ → List ℕ
-noted l k p b v = sets l (8 * k) (bytesOf (record { address = p; bank = b; value = v; kind = 1 }))
+abbrev noted : Purpose → List ℕ → ℕ → ℕ → ℕ → ℕ → List ℕ
+noted why l k p b v = sets l (8 * k) (bytesOf (access 1 why p b v))
 
-wrote : {κ : Bank} {w : Wiring} {s : State} {r i l r′ i′ l′ : List ℕ} (p v k : ℕ) (u : Bus) → Stands κ s r w →
-    stored images (world (s .bus) i) κ p v ≡ world u i′ → r′ ≡ recordOf (moved (s .cpu) u s) → l′ ≡ noted l k p (w .bank) v →
-    Writes κ p v k s i l r′ i′ l′
-wrote {κ} {w} {s} {i = i} {i′ = i′} p v k u h a e d =
+wrote : {why : Purpose} {κ : Bank} {w : Wiring} {s : State} {r i l r′ i′ l′ : List ℕ} (p v k : ℕ) (u : Bus) → Stands κ s r w →
+    stored images (world (s .bus) i) κ p v ≡ world u i′ → r′ ≡ recordOf (moved (s .cpu) u s) → l′ ≡ noted why l k p (w .bank) v →
+    Writes why κ p v k s i l r′ i′ l′
+wrote {κ = κ} {w} {s} {i = i} {i′ = i′} p v k u h a e d =
     let after : u ≡ busAfter κ p v (s .bus) i = sym (ap (λ (x : World (List ℕ)). x .bus) a) in
     record {
       bytes = e ∙ ap (λ (x : Bus). recordOf (moved (s .cpu) x s)) after;
-      goes = writes κ p v (w .bank) k (s .bus) _ i i′ _ _ (a ∙ ap (λ (x : Bus). world x i′) after) (h .wired .bank) d;
+      goes = writes _ κ p v (w .bank) k (s .bus) _ i i′ _ _ (a ∙ ap (λ (x : Bus). world x i′) after) (h .wired .bank) d;
     }
 
-pub write-register : {κ : Bank} {w : Wiring} {s : State} {r i l r′ l′ : List ℕ} (p v k : ℕ) → Stands κ s r w → p < 2 → p < w .plain →
-    r′ ≡ recordOf (moved (s .cpu) (registered (s .bus) p v) s) → l′ ≡ noted l k p (w .bank) v → Writes κ p v k s i l r′ i l′
+pub write-register : {why : Purpose} {κ : Bank} {w : Wiring} {s : State} {r i l r′ l′ : List ℕ} (p v k : ℕ) → Stands κ s r w →
+    p < 2 → p < w .plain → r′ ≡ recordOf (moved (s .cpu) (registered (s .bus) p v) s) → l′ ≡ noted why l k p (w .bank) v →
+    Writes why κ p v k s i l r′ i l′
 write-register {i = i} p v k h q some e d = wrote p v k _ h (store-register i p v (h .wired) q (omega arith)) e d
 
-pub write-byte : {κ : Bank} {w : Wiring} {s : State} {r i l i′ l′ : List ℕ} (p v k : ℕ) → Stands κ s r w → (p < 2 → w .plain ≡ 0) →
-    i′ ≡ putAt (s .bus .protected) w i p v → l′ ≡ noted l k p (w .bank) v → Writes κ p v k s i l r i′ l′
+pub write-byte : {why : Purpose} {κ : Bank} {w : Wiring} {s : State} {r i l i′ l′ : List ℕ} (p v k : ℕ) → Stands κ s r w →
+    (p < 2 → w .plain ≡ 0) → i′ ≡ putAt (s .bus .protected) w i p v → l′ ≡ noted why l k p (w .bank) v →
+    Writes why κ p v k s i l r i′ l′
 write-byte {i = i} p v k h q e d = wrote p v k _ h (store-byte i p v (h .wired) q ∙ (rw e)) (h .bytes) d
 
 pub plain-above : {κ : Bank} {w : Wiring} {s : State} {r : List ℕ} {p : ℕ} → Stands κ s r w → w .plain ≤ p → p < 2 → w .plain ≡ 0

@@ -1,12 +1,14 @@
 // Writes on the bus of the three parts: one at a time, each listed at its cycle's place, and PC pushed by two. The state is the
 // record's sixteen bytes.
 
+use rules::Purpose;
 use wiring::Wiring;
 ghost use Prim.Native.Nat.{_+_, _≤_, _<_};
 ghost use mathlib.Core.Path.{_≡_};
 ghost use lib.ListN.{length};
 ghost use Rattle.rules.specs.declared.State.{State};
 ghost use Rattle.rules.specs.Cycles.{Bank, execution, done, write};
+ghost use Rattle.rules.specs.declared.Purpose.the-variants.{Stack};
 ghost use Rattle.rules.specs.Operations.{pushPc};
 ghost use Rattle.rules.specs.Bus.{narrow};
 ghost use Rattle.rules.specs.Record.{recordOf};
@@ -51,6 +53,7 @@ fn put(pages: u8, w: Wiring, image: &mut [u8], a: u16, v: u8)
 
 // One write cycle, the step's k-th.
 pub fn write(
+    purpose: Purpose,
     state: &mut [u8],
     w: Wiring,
     image: &mut [u8],
@@ -61,9 +64,9 @@ pub fn write(
 )
     requires { ⌜ (k < 7) × Ready w (length (now state)) (length (now image)) (length (now list)) ⌝ }
     ensures { λ r. ⌜ ((s : State) (κ : Bank) → Stands κ s (now (state .entry)) w →
-        Writes κ a v k s (now (image .entry)) (now (list .entry)) (now (state .exit)) (now (image .exit)) (now (list .exit))) ⌝ }
+        Writes purpose κ a v k s (now (image .entry)) (now (list .entry)) (now (state .exit)) (now (image .exit)) (now (list .exit))) ⌝ }
 {
-    listing::note(list, k, a, w.bank, v, 1);
+    listing::note_write(purpose, list, k, a, w.bank, v);
     if w.plain <= a {
         put(state[11], w, image, a, v);
         return;
@@ -79,11 +82,11 @@ pub fn write(
 pub fn push(state: &[u8], w: Wiring, image: &mut [u8], list: &mut [u8], k: usize, s: u8, v: u8)
     requires { ⌜ (k < 7) × Ready w (length (now state)) (length (now image)) (length (now list)) ⌝ }
     ensures { λ r. ⌜ ((t : State) (κ : Bank) → Stands κ t (now (state .entry)) w →
-        Goes {A = Unit {0}} (write κ (256 + s) v (done tt)) k (t .bus) (now (image .entry)) (now (list .entry)) tt (k + 1) (t .bus)
+        Goes {A = Unit {0}} (write Stack κ (256 + s) v (done tt)) k (t .bus) (now (image .entry)) (now (list .entry)) tt (k + 1) (t .bus)
         (now (image .exit)) (now (list .exit))) ⌝ }
 {
     let a = 256 + s as u16;
-    listing::note(list, k, a, w.bank, v, 1);
+    listing::note_write(Purpose::Stack, list, k, a, w.bank, v);
     put(state[11], w, image, a, v);
 }
 

@@ -41,7 +41,7 @@ perform-requires c κs =
       rw is (short-is (f .opcode) _ _ (omega (arith, at-fetch .fetch .ok)) ∙ sure),
       record {
         whole = start .pre .0 .0;
-        room = rw (at-begin .begin .kept .1 .1 .1 .0) (start .pre .0 .1);
+        room = rw (at-begin .begin .kept .1 .1 .1 .1 .0) (start .pre .0 .1);
         base = omega (arith, at-wire .wire .ensures .0);
         even = omega (arith, at-wire .wire .ensures .0, start .pre .1 .1);
         image = omega (arith, at-wire .wire .ensures .0);
@@ -73,7 +73,7 @@ returns-2 c =
           executed (f .opcode) (f .low) (f .high) (found .opcode) sure (some done)
           (alike (fetched-first (s .bus) _ (s .cpu) (f .opcode) (f .low) (f .high) fits sure (found .opcode) (found .low) (found .high))
           (call-does (λ v. rest (instructionOf (decode (f .opcode)) (f .low) (f .high)) (s .cpu))
-          (at-begin .begin .ensures s _ (t .wired) pc found) (rw is at done))),
+          (rw is at (at-begin .begin .ensures s _ (t .wired) pc found)) (rw is at done))),
     )
 
 pub instruction-spec : {M : Type 1} → statement M

@@ -16,7 +16,7 @@ set-flags-requires c κs =
     let at-write = to-write .before .before .before .before in
     let to-start = at-write .before .before .before .before .before .before in
     let start = to-start .before .before .before .before in
-    at-write2 .write2 .kept .0 ∙ at-write .write .kept .0 ∙ start .pre .1 .whole
+    at-write2 .write2 .kept .1 .0 ∙ at-write .write .kept .1 .0 ∙ start .pre .1 .whole
 
 returns : tie.Need-returns
 unfolding _>>=_

@@ -1,4 +1,5 @@
 use mathlib.Core.Path.{_∙_}
+use Rattle.rules.specs.declared.Purpose.the-variants.{Stack}
 use Rattle.rules.specs.Addressing.{wordAt}
 use Rattle.rules.specs.Operations.{stack, rti, withPc, withP, withS}
 use Rattle.laws.proofs.Goes.{does, ended, then-call}
@@ -35,7 +36,7 @@ returns c =
     let sp = holds s (h .bytes) .s in
     let flagged = makes-p (at-flags-of .flags-of .ensures) (at-set-flags .set-flags .ensures) s (h .bytes) in
     does s (rw (at-up3 .up3 .ensures, sp) at (c .before .before .set-s-pc .ensures _ flagged))
-    (then-call (λ p. wordAt (stack (sum8 (s .cpu .s) 2)) (stack (sum8 (s .cpu .s) 3)) >>=
+    (then-call (λ p. wordAt Stack (stack (sum8 (s .cpu .s) 2)) (stack (sum8 (s .cpu .s) 3)) >>=
     λ a. done (withPc a (withP (flagsOf p) (withS (sum8 (s .cpu .s) 3) (s .cpu)))))
     (rw sp at (at-pulled .pulled .ensures s h))
     (then-call (λ a. done (withPc a (withP (flagsOf (at-pulled .pulled .result)) (withS (sum8 (s .cpu .s) 3) (s .cpu)))))

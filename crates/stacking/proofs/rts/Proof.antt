@@ -1,4 +1,5 @@
 use Rattle.rules.specs.Cycles.{done, read, execution, _>>=_}
+use Rattle.rules.specs.declared.Purpose.the-variants.{Wasted}
 use Rattle.rules.specs.Basics.{sum8, sum16}
 use Rattle.rules.specs.Operations.{withS, withPc, rts}
 use Rattle.laws.proofs.Goes.{does, ended, then-read, then-call}
@@ -21,7 +22,7 @@ returns c =
     does s
     (rw (at-wrapping-add-u16 .wrapping-add-u16 .ensures, at-up .up .ensures, sp) at (c .before .before .set-s-pc .ensures s (h .bytes)))
     (then-read _ (rw (at-stack .stack .ensures, sp) at (at-read .read .ensures s execution h))
-    (then-call (λ a. read execution a (λ v. done (withPc (sum16 a 1) (withS (sum8 (s .cpu .s) 2) (s .cpu)))))
+    (then-call (λ a. read Wasted execution a (λ v. done (withPc (sum16 a 1) (withS (sum8 (s .cpu .s) 2) (s .cpu)))))
     (rw sp at (at-word-above .word-above .ensures s h))
     (then-read _ (at-read2 .read2 .ensures s execution h) ended)))
 

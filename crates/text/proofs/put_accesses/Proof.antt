@@ -31,7 +31,7 @@ loop-again c =
     let at-loop = at-line .before .before .before in
     let list = now (at-loop .before .before .before .args .list) in
     let k = at-loop .loop .k in
-    let size = each-length (lineOf list) 12 (line-length list) k in (
+    let size = each-length (lineOf list) 14 (line-length list) k in (
       omega arith,
       rw (at-put .put .ensures, at-line .line-of .ensures, at-loop .loop .inv .1, add-one k)
           (each-more (lineOf list) k 0 _ _ (omega (arith, size))),

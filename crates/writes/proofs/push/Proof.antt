@@ -14,8 +14,8 @@ returns c = λ t κ h.
     let at-put = c .before .before in
     let at-note = at-put .before .before .before .before .before in
     let left = rw (h .bytes) at (at-put .put .ensures) in
-    writes κ _ _ _ _ (t .bus) (t .bus) _ _ _ _ (store-byte _ _ _ w (λ l. absurd (omega arith)) ∙ (rw left)) (w .bank)
-    (at-note .note .ensures)
+    writes _ κ _ _ _ _ (t .bus) (t .bus) _ _ _ _ (store-byte _ _ _ w (λ l. absurd (omega arith)) ∙ (rw left)) (w .bank)
+    (at-note .note-write .ensures)
 
 pub push-spec : {M : Type 1} → statement M
 push-spec =

@@ -12,10 +12,10 @@ returns c =
     let at-wrapping-add-u16 = at-note .before .before in
     λ s i h.
     let p = h .here in
-    let noted = rw (at-wrapping-add-u16 .wrapping-add-u16 .ensures, p) at (at-note .note .ensures) in
+    let noted = rw (at-wrapping-add-u16 .wrapping-add-u16 .ensures, p) at (at-note .note-read .ensures) in
     record {
       bytes = at-past .past .ensures s (h .stands .bytes) p;
-      goes = then-read _ (reads execution _ _ _ 2 (s .bus) i _ _ (h .told) (h .stands .wired .bank) noted) ended;
+      goes = then-read _ (reads _ execution _ _ _ 2 (s .bus) i _ _ (h .told) (h .stands .wired .bank) noted) ended;
     }
 
 pub third-spec : {M : Type 1} → statement M

@@ -1,0 +1,6 @@
+-- What of an access is listed first: address low, high, bank and value, and four zeros.
+use Prim.Native.Nat.{ℕ, _/_, _%_}
+use mathlib.Core.List.{List, [], _∷_}
+
+abbrev pub begun : ℕ → ℕ → ℕ → List ℕ
+begun a bank v = a % 256 ∷ a / 256 ∷ bank ∷ v ∷ 0 ∷ 0 ∷ 0 ∷ 0 ∷ []
