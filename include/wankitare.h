@@ -98,8 +98,8 @@ enum {
     /* Counting by page: accesses_len is no multiple of 8, so the list is cut. */
     WANKITARE_LIST_LENGTH = 20,
 
-    /* A record of the list is none that a step could have listed. Its byte 4 is above 1, or one of its bytes 5 to 7 is
-       not 0. */
+    /* A record of the list is none that a step could have listed. Its byte 4 is above 1, its byte 5 is above 7, or its
+       byte 6 or 7 is not 0. A byte 5 of 0 passes: that is a list from before purposes were listed. */
     WANKITARE_LIST_RECORD = 21,
 
     /* All 512 counts together would pass 64 bits. Counts that were never set to zero may be why. */
@@ -158,7 +158,36 @@ enum {
     WANKITARE_AT_ADDRESS = 0,   /* low, high */
     WANKITARE_AT_BANK = 2,      /* of a 6509, as selected, 0 to 15; of k banks in the image it is this one modulo k */
     WANKITARE_AT_VALUE = 3,
-    WANKITARE_AT_WRITTEN = 4    /* 0 for a read, 1 for a write (listed whole even where protection stops it) */
+    WANKITARE_AT_WRITTEN = 4,   /* 0 for a read, 1 for a write (listed whole even where protection stops it) */
+    WANKITARE_AT_PURPOSE = 5    /* one of the seven below */
+};
+
+/* What an access was for. */
+enum {
+    /* An instruction's first access, and no other: a reset and the entry to an interrupt have none. */
+    WANKITARE_FOR_OPCODE = 1,
+
+    /* A byte that follows the opcode: an immediate value, an address, or a branch's offset, even where the branch is
+       not taken. */
+    WANKITARE_FOR_OPERAND = 2,
+
+    /* A read whose value is not used (the first of an indexed store, or of an indexed load that crosses a page; both of
+       PC by a reset or an interrupt), or the write by which a shift, INC or DEC puts the old value back. */
+    WANKITARE_FOR_WASTED = 3,
+
+    /* One of the two bytes of an address that (z,X), (z),Y or JMP (a) fetches from memory. */
+    WANKITARE_FOR_POINTER = 4,
+
+    /* The value that an instruction loads, stores or changes: of an indexed load the first read already, where no page
+       is crossed. */
+    WANKITARE_FOR_DATA = 5,
+
+    /* A byte that is pushed or pulled, and each of the three that a reset reads where an interrupt would push (the read
+       at S, with which pulls begin and JSR its pushes, is wasted). */
+    WANKITARE_FOR_STACK = 6,
+
+    /* One of the two bytes of an address from FFFA to FFFF, where a reset, an interrupt or BRK goes on. */
+    WANKITARE_FOR_VECTOR = 7
 };
 
 /* Where things stand in a map record. The other bytes are 0. */

@@ -103,11 +103,19 @@ static void start(void)
     listed = 0;
 }
 
+/* Eight digits: the bank's one, the address's four, the value's two, the purpose's one. */
 static void list(uint8_t written)
 {
-    uint8_t access[WANKITARE_ACCESS_BYTES] = {bytes[2], bytes[1], bytes[0], bytes[3], written};
+    uint8_t *access = left.accesses + WANKITARE_ACCESS_BYTES * listed++;
+    uint64_t digits = number(4);
 
-    memcpy(left.accesses + WANKITARE_ACCESS_BYTES * listed++, access, sizeof access);
+    memset(access, 0, WANKITARE_ACCESS_BYTES);
+    access[WANKITARE_AT_ADDRESS] = (uint8_t)(digits >> 12);
+    access[WANKITARE_AT_ADDRESS + 1] = (uint8_t)(digits >> 20);
+    access[WANKITARE_AT_BANK] = (uint8_t)(digits >> 28);
+    access[WANKITARE_AT_VALUE] = (uint8_t)(digits >> 4);
+    access[WANKITARE_AT_WRITTEN] = written;
+    access[WANKITARE_AT_PURPOSE] = digits & 0x0F;
 }
 
 static int details_hold(uint64_t answer)
@@ -165,8 +173,9 @@ static void check_runs(void)
     static const uint8_t program[] = {0xA9, 0x42, 0xEA, 0x02};
     static const uint8_t before[WANKITARE_RECORD_BYTES] = {2, 0, 0, 0, 0xFF, 0x24, 0x00, 0x80};
     static const uint8_t after[WANKITARE_RECORD_BYTES] = {2, 0x42, 0, 0, 0xFF, 0x24, 0x03, 0x80, 0, 0, 0, 0, 4};
-    static const uint8_t lists[] = {0, 0x80, 0, 0xA9, 0, 0, 0, 0, 1, 0x80, 0, 0x42, 0, 0, 0, 0,
-                                    2, 0x80, 0, 0xEA, 0, 0, 0, 0, 3, 0x80, 0, 0x02, 0, 0, 0, 0};
+    static const uint8_t lists[] = {
+        0, 0x80, 0, 0xA9, 0, WANKITARE_FOR_OPCODE, 0, 0, 1, 0x80, 0, 0x42, 0, WANKITARE_FOR_OPERAND, 0, 0,
+        2, 0x80, 0, 0xEA, 0, WANKITARE_FOR_OPCODE, 0, 0, 3, 0x80, 0, 0x02, 0, WANKITARE_FOR_WASTED, 0, 0};
     static const uint8_t script[6];
     uint8_t record[WANKITARE_RECORD_BYTES], accesses[sizeof lists + WANKITARE_STEP_ROOM];
     uint8_t *image = given.image;
@@ -249,8 +258,10 @@ static void check_admit(void)
 static void check_pages(void)
 {
     static uint8_t lists[][WANKITARE_ACCESS_BYTES] = {
-        {0x00, 0x80, 0, 0xA5}, {0x01, 0x80, 0, 0x10}, {0x10, 0x00, 0, 0x42},
-        {0x02, 0x80, 0, 0x8D}, {0x03, 0x80, 0, 0x10}, {0x04, 0x80, 0, 0x02}, {0x10, 0x02, 0, 0x42, 1}};
+        {0x00, 0x80, 0, 0xA5, 0, WANKITARE_FOR_OPCODE},  {0x01, 0x80, 0, 0x10, 0, WANKITARE_FOR_OPERAND},
+        {0x10, 0x00, 0, 0x42, 0, WANKITARE_FOR_DATA},    {0x02, 0x80, 0, 0x8D, 0, WANKITARE_FOR_OPCODE},
+        {0x03, 0x80, 0, 0x10, 0, WANKITARE_FOR_OPERAND}, {0x04, 0x80, 0, 0x02, 0, WANKITARE_FOR_OPERAND},
+        {0x10, 0x02, 0, 0x42, 1, WANKITARE_FOR_DATA}};
     static uint64_t reads[WANKITARE_PAGES], writes[WANKITARE_PAGES];
     static uint64_t right_reads[WANKITARE_PAGES], right_writes[WANKITARE_PAGES];
     const size_t first = 3 * WANKITARE_ACCESS_BYTES, rest = sizeof lists - first;
@@ -268,13 +279,16 @@ static void check_pages(void)
     check("pages, list cut", wankitare_pages(reads, writes, lists[0], sizeof lists - 1) == WANKITARE_LIST_LENGTH);
     check("pages, bad record", wankitare_pages(reads, writes, lists[0], sizeof lists) == WANKITARE_LIST_RECORD);
     lists[0][7] = 0;
+    lists[0][WANKITARE_AT_PURPOSE] = WANKITARE_FOR_VECTOR + 1;
+    check("pages, no purpose", wankitare_pages(reads, writes, lists[0], sizeof lists) == WANKITARE_LIST_RECORD);
+    lists[0][WANKITARE_AT_PURPOSE] = 0; /* as before purposes were listed */
     writes[0xFF] = UINT64_MAX - 7 - 6; /* with the seven before, room for six */
     right_writes[0xFF] = writes[0xFF];
     check("pages, total", wankitare_pages(reads, writes, lists[0], sizeof lists) == WANKITARE_TOTAL);
     check("pages, refused and unchanged", memcmp(reads, right_reads, sizeof reads) == 0 &&
                                               memcmp(writes, right_writes, sizeof writes) == 0);
-    word = wankitare_pages(reads, writes, lists[1], sizeof lists - WANKITARE_ACCESS_BYTES);
-    check("pages, the last that fit", word == 0 && reads[0x80] == 9 && reads[0x00] == 2 && writes[0x02] == 2);
+    word = wankitare_pages(reads, writes, lists[0], sizeof lists - WANKITARE_ACCESS_BYTES);
+    check("pages, the last that fit", word == 0 && reads[0x80] == 10 && reads[0x00] == 2 && writes[0x02] == 1);
     check("pages, no room", wankitare_pages(reads, writes, lists[0], WANKITARE_ACCESS_BYTES) == WANKITARE_TOTAL);
 }
 

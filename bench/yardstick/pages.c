@@ -1,11 +1,11 @@
 #include "yardstick.h"
 
 enum { PAGES = 256, ACCESS = 8 };
-enum { HIGH = 1, WRITTEN = 4 }; /* of an access's bytes */
+enum { HIGH = 1, WRITTEN = 4, PURPOSE = 5, MOST_PURPOSE = 7 }; /* of an access's bytes, and the last purpose */
 
 static int is_malformed(const uint8_t *access)
 {
-    return access[WRITTEN] > 1 || access[5] != 0 || access[6] != 0 || access[7] != 0;
+    return access[WRITTEN] > 1 || access[PURPOSE] > MOST_PURPOSE || access[6] != 0 || access[7] != 0;
 }
 
 uint64_t yardstick_pages(uint64_t *restrict reads, uint64_t *restrict writes, const uint8_t *restrict accesses,

@@ -27,6 +27,7 @@ enum { N = 0x80, V = 0x40, BIT5 = 0x20, BIT4 = 0x10, D = 0x08, I = 0x04, Z = 0x0
 enum { RES = 1, NMI = 2, IRQ = 4 };
 enum { NMI_VECTOR = 0xFFFA, RES_VECTOR = 0xFFFC, IRQ_VECTOR = 0xFFFE };
 enum { ACCESS = 8, ROOM = 56 };
+enum purpose { OPCODE = 1, OPERAND, WASTED, POINTER, DATA, STACK, VECTOR }; /* of an access */
 
 struct core {
     int part;
@@ -45,14 +46,14 @@ INLINE uint16_t word(uint8_t low, uint8_t high)
     return (uint16_t)(low | high << 8);
 }
 
-INLINE uint64_t access_of(const struct core *c, uint16_t address, uint8_t value, int written)
+INLINE uint64_t access_of(const struct core *c, enum purpose purpose, uint16_t address, uint8_t value, int written)
 {
-    return address | c->bank | (uint64_t)value << 24 | (uint64_t)written << 32;
+    return address | c->bank | (uint64_t)value << 24 | (uint64_t)written << 32 | (uint64_t)purpose << 40;
 }
 
-INLINE void list(struct core *c, uint16_t address, uint8_t value, int written)
+INLINE void list(struct core *c, enum purpose purpose, uint16_t address, uint8_t value, int written)
 {
-    uint64_t access = access_of(c, address, value, written);
+    uint64_t access = access_of(c, purpose, address, value, written);
     memcpy(c->next, &access, ACCESS);
     c->next += ACCESS;
 }
@@ -89,18 +90,18 @@ INLINE uint8_t peek(const struct core *c, uint16_t address)
     return c->record[REGISTER_0 + address];
 }
 
-INLINE uint8_t read(struct core *c, uint16_t address)
+INLINE uint8_t read(struct core *c, enum purpose purpose, uint16_t address)
 {
     uint8_t value = peek(c, address);
-    list(c, address, value, 0);
+    list(c, purpose, address, value, 0);
     return value;
 }
 
 /* The bank is not selected anew: after a write to 0000 a step accesses at most 0000 once more, and there
    the first write was of the value just read. */
-INLINE void write(struct core *c, uint16_t address, uint8_t value)
+INLINE void write(struct core *c, enum purpose purpose, uint16_t address, uint8_t value)
 {
-    list(c, address, value, 1);
+    list(c, purpose, address, value, 1);
     if (is_protected(c, address))
         return;
     if (is_register(c, address))
@@ -109,9 +110,24 @@ INLINE void write(struct core *c, uint16_t address, uint8_t value)
         *cell(c, address) = value;
 }
 
-INLINE uint8_t fetch(struct core *c)
+INLINE uint8_t fetch(struct core *c, enum purpose purpose)
 {
-    return read(c, c->pc++);
+    return read(c, purpose, c->pc++);
+}
+
+INLINE uint8_t operand(struct core *c)
+{
+    return fetch(c, OPERAND);
+}
+
+INLINE uint8_t data(struct core *c, uint16_t address)
+{
+    return read(c, DATA, address);
+}
+
+INLINE void store(struct core *c, uint16_t address, uint8_t value)
+{
+    write(c, DATA, address, value);
 }
 
 INLINE uint16_t stack(const struct core *c)
@@ -121,7 +137,7 @@ INLINE uint16_t stack(const struct core *c)
 
 INLINE void push(struct core *c, uint8_t value)
 {
-    write(c, stack(c), value);
+    write(c, STACK, stack(c), value);
     c->record[S]--;
 }
 
@@ -134,7 +150,7 @@ INLINE void push_pc(struct core *c)
 INLINE uint8_t pull(struct core *c)
 {
     c->record[S]++;
-    return read(c, stack(c));
+    return read(c, STACK, stack(c));
 }
 
 INLINE void pull_pc(struct core *c)
@@ -146,15 +162,15 @@ INLINE void pull_pc(struct core *c)
 /* The vector is read and I is set. */
 INLINE void enter(struct core *c, uint16_t vector)
 {
-    uint8_t low = read(c, vector);
-    c->pc = word(low, read(c, (uint16_t)(vector + 1)));
+    uint8_t low = read(c, VECTOR, vector);
+    c->pc = word(low, read(c, VECTOR, (uint16_t)(vector + 1)));
     c->record[P] |= I;
 }
 
 INLINE void interrupt(struct core *c, uint16_t vector)
 {
-    read(c, c->pc);
-    read(c, c->pc);
+    read(c, WASTED, c->pc);
+    read(c, WASTED, c->pc);
     push_pc(c);
     push(c, c->record[P]);
     enter(c, vector);
@@ -162,10 +178,10 @@ INLINE void interrupt(struct core *c, uint16_t vector)
 
 INLINE void reset(struct core *c)
 {
-    read(c, c->pc);
-    read(c, c->pc);
+    read(c, WASTED, c->pc);
+    read(c, WASTED, c->pc);
     for (int i = 0; i < 3; i++) {
-        read(c, stack(c));
+        read(c, STACK, stack(c));
         c->record[S]--;
     }
     enter(c, RES_VECTOR);
@@ -175,22 +191,22 @@ INLINE void reset(struct core *c)
 
 INLINE uint16_t absolute(struct core *c)
 {
-    uint8_t low = fetch(c);
-    return word(low, fetch(c));
+    uint8_t low = operand(c);
+    return word(low, operand(c));
 }
 
 INLINE uint16_t zero_indexed(struct core *c, uint8_t index)
 {
-    uint8_t base = fetch(c);
-    read(c, base);
+    uint8_t base = operand(c);
+    read(c, WASTED, base);
     return (uint8_t)(base + index);
 }
 
 /* Both bytes lie in one page. */
 INLINE uint16_t pointer(struct core *c, uint16_t at)
 {
-    uint8_t low = read(c, at);
-    return word(low, read(c, word((uint8_t)(at + 1), (uint8_t)(at >> 8))));
+    uint8_t low = read(c, POINTER, at);
+    return word(low, read(c, POINTER, word((uint8_t)(at + 1), (uint8_t)(at >> 8))));
 }
 
 INLINE uint16_t indexed_indirect(struct core *c)
@@ -200,7 +216,7 @@ INLINE uint16_t indexed_indirect(struct core *c)
 
 INLINE uint16_t indirect(struct core *c)
 {
-    return pointer(c, fetch(c));
+    return pointer(c, operand(c));
 }
 
 INLINE uint16_t indirect_banked(struct core *c)
@@ -215,7 +231,7 @@ INLINE uint16_t indirect_banked(struct core *c)
 INLINE uint16_t indexed(struct core *c, uint16_t base, uint8_t index)
 {
     uint16_t sum = (uint16_t)(base + index);
-    read(c, (uint16_t)((base & 0xFF00) | (sum & 0x00FF)));
+    read(c, WASTED, (uint16_t)((base & 0xFF00) | (sum & 0x00FF)));
     return sum;
 }
 
@@ -224,8 +240,8 @@ INLINE uint8_t load_indexed(struct core *c, uint16_t base, uint8_t index)
 {
     uint16_t sum = (uint16_t)(base + index);
     if (((base ^ sum) & 0xFF00) != 0)
-        read(c, (uint16_t)(sum - 0x0100));
-    return read(c, sum);
+        read(c, WASTED, (uint16_t)(sum - 0x0100));
+    return data(c, sum);
 }
 
 /* Operations. */
@@ -343,19 +359,19 @@ INLINE uint8_t dec(struct core *c, uint8_t v)
 
 INLINE void branch(struct core *c, int taken)
 {
-    uint8_t offset = fetch(c);
+    uint8_t offset = operand(c);
     if (!taken)
         return;
     uint16_t target = (uint16_t)(c->pc + (int8_t)offset);
-    read(c, c->pc);
+    read(c, WASTED, c->pc);
     if (((target ^ c->pc) & 0xFF00) != 0)
-        read(c, (uint16_t)((c->pc & 0xFF00) | (target & 0x00FF)));
+        read(c, WASTED, (uint16_t)((c->pc & 0xFF00) | (target & 0x00FF)));
     c->pc = target;
 }
 
 INLINE void implied(struct core *c)
 {
-    read(c, c->pc);
+    read(c, WASTED, c->pc);
 }
 
 INLINE void flag(struct core *c, uint8_t clear, uint8_t set)
@@ -377,11 +393,11 @@ INLINE void pull_p(struct core *c)
 
 /* The rows of the opcode table. (z),Y stands apart in the first: B1 and 91 have their own. */
 #define READ_A(base, op) \
-    case base + 0x01: op(c, read(c, indexed_indirect(c))); break; \
-    case base + 0x05: op(c, read(c, fetch(c))); break; \
-    case base + 0x09: op(c, fetch(c)); break; \
-    case base + 0x0D: op(c, read(c, absolute(c))); break; \
-    case base + 0x15: op(c, read(c, zero_indexed(c, c->record[X]))); break; \
+    case base + 0x01: op(c, data(c, indexed_indirect(c))); break; \
+    case base + 0x05: op(c, data(c, operand(c))); break; \
+    case base + 0x09: op(c, operand(c)); break; \
+    case base + 0x0D: op(c, data(c, absolute(c))); break; \
+    case base + 0x15: op(c, data(c, zero_indexed(c, c->record[X]))); break; \
     case base + 0x19: op(c, load_indexed(c, absolute(c), c->record[Y])); break; \
     case base + 0x1D: op(c, load_indexed(c, absolute(c), c->record[X])); break;
 
@@ -391,14 +407,14 @@ INLINE void pull_p(struct core *c)
 #define CHANGE(opcode, op, address) \
     case opcode: { \
         uint16_t at = address; \
-        uint8_t value = read(c, at); \
-        write(c, at, value); \
-        write(c, at, op(c, value)); \
+        uint8_t value = data(c, at); \
+        write(c, WASTED, at, value); \
+        store(c, at, op(c, value)); \
         break; \
     }
 
 #define CHANGES(z, a, zx, ax, op) \
-    CHANGE(z, op, fetch(c)) \
+    CHANGE(z, op, operand(c)) \
     CHANGE(a, op, absolute(c)) \
     CHANGE(zx, op, zero_indexed(c, c->record[X])) \
     CHANGE(ax, op, indexed(c, absolute(c), c->record[X]))
@@ -428,20 +444,20 @@ INLINE int execute(struct core *c, uint8_t opcode)
     READ_INDIRECT_Y(0xF1, sbc)
     case 0xB1: lda(c, load_indexed(c, indirect_banked(c), c->record[Y])); break;
 
-    case 0x81: write(c, indexed_indirect(c), c->record[A]); break;
-    case 0x85: write(c, fetch(c), c->record[A]); break;
-    case 0x8D: write(c, absolute(c), c->record[A]); break;
-    case 0x91: write(c, indexed(c, indirect_banked(c), c->record[Y]), c->record[A]); break;
-    case 0x95: write(c, zero_indexed(c, c->record[X]), c->record[A]); break;
-    case 0x99: write(c, indexed(c, absolute(c), c->record[Y]), c->record[A]); break;
-    case 0x9D: write(c, indexed(c, absolute(c), c->record[X]), c->record[A]); break;
+    case 0x81: store(c, indexed_indirect(c), c->record[A]); break;
+    case 0x85: store(c, operand(c), c->record[A]); break;
+    case 0x8D: store(c, absolute(c), c->record[A]); break;
+    case 0x91: store(c, indexed(c, indirect_banked(c), c->record[Y]), c->record[A]); break;
+    case 0x95: store(c, zero_indexed(c, c->record[X]), c->record[A]); break;
+    case 0x99: store(c, indexed(c, absolute(c), c->record[Y]), c->record[A]); break;
+    case 0x9D: store(c, indexed(c, absolute(c), c->record[X]), c->record[A]); break;
 
-    case 0x86: write(c, fetch(c), c->record[X]); break;
-    case 0x8E: write(c, absolute(c), c->record[X]); break;
-    case 0x96: write(c, zero_indexed(c, c->record[Y]), c->record[X]); break;
-    case 0x84: write(c, fetch(c), c->record[Y]); break;
-    case 0x8C: write(c, absolute(c), c->record[Y]); break;
-    case 0x94: write(c, zero_indexed(c, c->record[X]), c->record[Y]); break;
+    case 0x86: store(c, operand(c), c->record[X]); break;
+    case 0x8E: store(c, absolute(c), c->record[X]); break;
+    case 0x96: store(c, zero_indexed(c, c->record[Y]), c->record[X]); break;
+    case 0x84: store(c, operand(c), c->record[Y]); break;
+    case 0x8C: store(c, absolute(c), c->record[Y]); break;
+    case 0x94: store(c, zero_indexed(c, c->record[X]), c->record[Y]); break;
 
     CHANGES(0x06, 0x0E, 0x16, 0x1E, asl)
     CHANGES(0x26, 0x2E, 0x36, 0x3E, rol)
@@ -454,25 +470,25 @@ INLINE int execute(struct core *c, uint8_t opcode)
     SHIFT_A(0x4A, lsr)
     SHIFT_A(0x6A, ror)
 
-    case 0xA2: ldx(c, fetch(c)); break;
-    case 0xA6: ldx(c, read(c, fetch(c))); break;
-    case 0xAE: ldx(c, read(c, absolute(c))); break;
-    case 0xB6: ldx(c, read(c, zero_indexed(c, c->record[Y]))); break;
+    case 0xA2: ldx(c, operand(c)); break;
+    case 0xA6: ldx(c, data(c, operand(c))); break;
+    case 0xAE: ldx(c, data(c, absolute(c))); break;
+    case 0xB6: ldx(c, data(c, zero_indexed(c, c->record[Y]))); break;
     case 0xBE: ldx(c, load_indexed(c, absolute(c), c->record[Y])); break;
-    case 0xA0: ldy(c, fetch(c)); break;
-    case 0xA4: ldy(c, read(c, fetch(c))); break;
-    case 0xAC: ldy(c, read(c, absolute(c))); break;
-    case 0xB4: ldy(c, read(c, zero_indexed(c, c->record[X]))); break;
+    case 0xA0: ldy(c, operand(c)); break;
+    case 0xA4: ldy(c, data(c, operand(c))); break;
+    case 0xAC: ldy(c, data(c, absolute(c))); break;
+    case 0xB4: ldy(c, data(c, zero_indexed(c, c->record[X]))); break;
     case 0xBC: ldy(c, load_indexed(c, absolute(c), c->record[X])); break;
 
-    case 0xE0: cpx(c, fetch(c)); break;
-    case 0xE4: cpx(c, read(c, fetch(c))); break;
-    case 0xEC: cpx(c, read(c, absolute(c))); break;
-    case 0xC0: cpy(c, fetch(c)); break;
-    case 0xC4: cpy(c, read(c, fetch(c))); break;
-    case 0xCC: cpy(c, read(c, absolute(c))); break;
-    case 0x24: bit(c, read(c, fetch(c))); break;
-    case 0x2C: bit(c, read(c, absolute(c))); break;
+    case 0xE0: cpx(c, operand(c)); break;
+    case 0xE4: cpx(c, data(c, operand(c))); break;
+    case 0xEC: cpx(c, data(c, absolute(c))); break;
+    case 0xC0: cpy(c, operand(c)); break;
+    case 0xC4: cpy(c, data(c, operand(c))); break;
+    case 0xCC: cpy(c, data(c, absolute(c))); break;
+    case 0x24: bit(c, data(c, operand(c))); break;
+    case 0x2C: bit(c, data(c, absolute(c))); break;
 
     case 0x10: branch(c, !(c->record[P] & N)); break;
     case 0x30: branch(c, c->record[P] & N); break;
@@ -490,25 +506,25 @@ INLINE int execute(struct core *c, uint8_t opcode)
         c->pc = pointer(c, absolute(c));
         break;
     case 0x20: /* the pushes come before the high operand is read */
-        low = fetch(c);
-        read(c, stack(c));
+        low = operand(c);
+        read(c, WASTED, stack(c));
         push_pc(c);
-        c->pc = word(low, read(c, c->pc));
+        c->pc = word(low, read(c, OPERAND, c->pc));
         break;
     case 0x60:
         implied(c);
-        read(c, stack(c));
+        read(c, WASTED, stack(c));
         pull_pc(c);
-        fetch(c);
+        fetch(c, WASTED);
         break;
     case 0x40:
         implied(c);
-        read(c, stack(c));
+        read(c, WASTED, stack(c));
         pull_p(c);
         pull_pc(c);
         break;
     case 0x00:
-        fetch(c);
+        fetch(c, WASTED);
         push_pc(c);
         push(c, c->record[P] | BIT4);
         enter(c, IRQ_VECTOR);
@@ -523,7 +539,7 @@ INLINE int execute(struct core *c, uint8_t opcode)
         break;
     case 0x28:
         implied(c);
-        read(c, stack(c));
+        read(c, WASTED, stack(c));
         pull_p(c);
         break;
     case 0x48:
@@ -532,7 +548,7 @@ INLINE int execute(struct core *c, uint8_t opcode)
         break;
     case 0x68:
         implied(c);
-        read(c, stack(c));
+        read(c, WASTED, stack(c));
         lda(c, pull(c));
         break;
 
@@ -613,7 +629,7 @@ INLINE uint64_t advance(struct core *c, uint8_t lines)
     } else {
         /* The fetch is listed last: a refusal moves no byte. */
         uint8_t opcode = peek(c, c->pc);
-        uint64_t first = access_of(c, c->pc, opcode, 0);
+        uint64_t first = access_of(c, OPCODE, c->pc, opcode, 0);
         c->pc++;
         c->next += ACCESS;
         if (!execute(c, opcode)) {

@@ -1,6 +1,7 @@
 //! Memory and parts: what an address reaches, and the list of accesses.
 
 use crate::record::{Part, Record};
+use Purpose::*;
 
 pub const BANK: usize = 65_536;
 
@@ -8,10 +9,31 @@ pub const BANK: usize = 65_536;
 pub const MOST_ACCESSES: usize = 7;
 pub const ACCESS: usize = 8;
 
-/// An access as it is listed; `written` is 0 for a read, 1 for a write.
-pub fn access(bank: u8, address: u16, value: u8, written: u8) -> [u8; ACCESS] {
+/// What an access was for, by document 02's numbers. "The write-back of an old value is 3, and so is each read whose
+/// value the step doesn't use, but a branch's offset is 2 and a reset's three stack reads are 6."
+#[derive(Clone, Copy, PartialEq, Eq)]
+pub enum Purpose {
+    Opcode = 1,
+    Operand = 2,
+    Wasted = 3,
+    Pointer = 4,
+    Data = 5,
+    Stack = 6,
+    Vector = 7,
+}
+
+const PURPOSES: [Purpose; 7] = [Opcode, Operand, Wasted, Pointer, Data, Stack, Vector];
+
+/// That of a listed access; none where the number is no purpose's.
+pub fn purpose_of(access: &[u8]) -> Option<Purpose> {
+    PURPOSES.into_iter().find(|&one| one as u8 == access[5])
+}
+
+/// An access as it is listed; `written` is 0 for a read, 1 for a write, and `purpose` is a purpose's number, or 0 as in
+/// lists from before purposes were listed.
+pub fn access(bank: u8, address: u16, value: u8, written: u8, purpose: u8) -> [u8; ACCESS] {
     let [low, high] = address.to_le_bytes();
-    [low, high, bank, value, written, 0, 0, 0]
+    [low, high, bank, value, written, purpose, 0, 0]
 }
 
 pub struct Bus<'a> {
@@ -40,7 +62,7 @@ impl<'a> Bus<'a> {
         }
     }
 
-    pub fn read(&mut self, address: u16) -> u8 {
+    pub fn read(&mut self, purpose: Purpose, address: u16) -> u8 {
         let value = match (self.part, address) {
             (Part::Mos6508, 0x0000) => self.registers[0],
             (Part::Mos6508, 0x0001) => self.port(),
@@ -48,13 +70,13 @@ impl<'a> Bus<'a> {
             (Part::Mos6509, 0x0001) => self.registers[1],
             _ => self.image[self.cell(address)],
         };
-        self.note(address, value, 0);
+        self.note(purpose, address, value, 0);
         value
     }
 
-    pub fn write(&mut self, address: u16, value: u8) {
+    pub fn write(&mut self, purpose: Purpose, address: u16, value: u8) {
         // A bank change holds from the next access: this one is listed with the bank before it.
-        self.note(address, value, 1);
+        self.note(purpose, address, value, 1);
         if self.is_protected(address) {
             return;
         }
@@ -92,8 +114,8 @@ impl<'a> Bus<'a> {
         usize::from(address >> 8) >= 256 - usize::from(self.protected_pages)
     }
 
-    fn note(&mut self, address: u16, value: u8, written: u8) {
-        let access = access(self.bank(), address, value, written);
+    fn note(&mut self, purpose: Purpose, address: u16, value: u8, written: u8) {
+        let access = access(self.bank(), address, value, written, purpose as u8);
         let start = self.listed * ACCESS;
         self.list[start..start + ACCESS].copy_from_slice(&access);
         self.listed += 1;

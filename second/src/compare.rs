@@ -5,6 +5,8 @@ use crate::cases::{Case, Cases, GUARD, LONGEST_RECORD, LONGEST_ROOM, MOST_SHIFT}
 use crate::core::step;
 use crate::cores::Tested;
 use crate::coverage::Coverage;
+use crate::purposes::are_lawful;
+use crate::record::Record;
 
 /// What is lent besides the image, with room around it that must not change.
 struct Lent {
@@ -93,6 +95,11 @@ impl Comparison {
             self.tell(&case, &places, mine, theirs);
             return false;
         }
+        if !keeps_the_laws(&case, mine, &self.mine.accesses[rooms.clone()]) {
+            println!("the second program breaks a law of purposes");
+            self.tell(&case, &places, mine, theirs);
+            return false;
+        }
         let record = &self.mine.record[records];
         coverage.note(&case, mine, record, &self.mine.accesses[rooms]);
         self.cases.settle(mine & 0xFF, record);
@@ -163,6 +170,17 @@ fn answers_its_case(case: &Case, word: u64) -> bool {
     match case.faults {
         0 => matches!(word & 0xFF, 0 | 6),
         faults => word & 0xFF == u64::from(faults.trailing_zeros()),
+    }
+}
+
+/// Those of purposes, which only a step that was done can break.
+fn keeps_the_laws(case: &Case, word: u64, accesses: &[u8]) -> bool {
+    match Record::read(&case.record[..case.record_len]) {
+        Ok(before) if word & 0xFF == 0 => {
+            let list = &accesses[..(word >> 8) as usize * ACCESS];
+            are_lawful(&before, case.lines, list)
+        }
+        _ => true,
     }
 }
 

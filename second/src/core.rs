@@ -1,5 +1,6 @@
 //! One step: the refusals in their order, the interrupts, and what instructions are made of.
 
+use crate::bus::Purpose::{self, Opcode, Operand, Stack, Vector, Wasted};
 use crate::bus::{Bus, ACCESS, BANK, MOST_ACCESSES};
 use crate::opcodes::decode;
 use crate::record::{Part, Record, C, D, I, N, V, Z};
@@ -37,7 +38,7 @@ pub fn step(record: &mut [u8], image: &mut [u8], lines: u8, pins: u8, accesses: 
         core.interrupt(IRQ_VECTOR);
     } else {
         // Only the fetch has happened where the opcode is undefined, and it is listed in the bus alone.
-        let opcode = core.fetch();
+        let opcode = core.fetch(Opcode);
         match decode(opcode) {
             Some(instruction) => core.execute(instruction),
             None => return 6 | u64::from(opcode) << 8 | u64::from(before.pc) << 16,
@@ -103,8 +104,8 @@ impl<'a> Core<'a> {
     }
 
     fn interrupt(&mut self, vector: u16) {
-        self.read(self.pc);
-        self.read(self.pc);
+        self.read(Wasted, self.pc);
+        self.read(Wasted, self.pc);
         self.push_pc();
         // Bit 4 of P is clear in every record.
         self.push(self.p);
@@ -117,10 +118,10 @@ impl<'a> Core<'a> {
             Part::Mos6508 => self.bus.registers = [0, 0],
             Part::Mos6509 => self.bus.registers = [15, 15],
         }
-        self.read(self.pc);
-        self.read(self.pc);
+        self.read(Wasted, self.pc);
+        self.read(Wasted, self.pc);
         for _ in 0..3 {
-            self.read_stack();
+            self.read_stack(Stack);
             self.s = self.s.wrapping_sub(1);
         }
         self.enter(RES_VECTOR);
@@ -128,43 +129,40 @@ impl<'a> Core<'a> {
 
     /// The end of BRK and of every interrupt: the vector is read, I is set, D is kept.
     pub fn enter(&mut self, vector: u16) {
-        self.pc = self.read_word(vector);
+        let low = self.read(Vector, vector);
+        let high = self.read(Vector, vector + 1);
+        self.pc = u16::from_le_bytes([low, high]);
         self.p |= I;
     }
 
-    pub fn read(&mut self, address: u16) -> u8 {
-        self.bus.read(address)
+    pub fn read(&mut self, purpose: Purpose, address: u16) -> u8 {
+        self.bus.read(purpose, address)
     }
 
-    pub fn write(&mut self, address: u16, value: u8) {
-        self.bus.write(address, value);
-    }
-
-    fn read_word(&mut self, address: u16) -> u16 {
-        let low = self.read(address);
-        let high = self.read(address.wrapping_add(1));
-        u16::from_le_bytes([low, high])
+    pub fn write(&mut self, purpose: Purpose, address: u16, value: u8) {
+        self.bus.write(purpose, address, value);
     }
 
     /// From the opcode's fetch on, `pc` is what document 01 calls PC+1, then PC+2.
-    pub fn fetch(&mut self) -> u8 {
-        let value = self.read(self.pc);
+    pub fn fetch(&mut self, purpose: Purpose) -> u8 {
+        let value = self.read(purpose, self.pc);
         self.pc = self.pc.wrapping_add(1);
         value
     }
 
+    /// Two operands.
     pub fn fetch_word(&mut self) -> u16 {
-        let low = self.fetch();
-        let high = self.fetch();
+        let low = self.fetch(Operand);
+        let high = self.fetch(Operand);
         u16::from_le_bytes([low, high])
     }
 
-    pub fn read_stack(&mut self) -> u8 {
-        self.read(0x0100 | u16::from(self.s))
+    pub fn read_stack(&mut self, purpose: Purpose) -> u8 {
+        self.read(purpose, 0x0100 | u16::from(self.s))
     }
 
     pub fn push(&mut self, value: u8) {
-        self.write(0x0100 | u16::from(self.s), value);
+        self.write(Stack, 0x0100 | u16::from(self.s), value);
         self.s = self.s.wrapping_sub(1);
     }
 
@@ -176,7 +174,7 @@ impl<'a> Core<'a> {
 
     pub fn pull(&mut self) -> u8 {
         self.s = self.s.wrapping_add(1);
-        self.read_stack()
+        self.read_stack(Stack)
     }
 
     pub fn pull_word(&mut self) -> u16 {

@@ -149,8 +149,15 @@ fn cells(bytes: &[u8]) -> Cells {
     (number(&bytes[..3]), bytes[3..].to_vec())
 }
 
-/// From the bank, the address and the value.
+/// Eight digits: the bank's one, the address's four, the value's two, the purpose's one.
 fn listed(bytes: &[u8], written: u8) -> [u8; ACCESS] {
-    let address = u16::from_be_bytes([bytes[1], bytes[2]]);
-    access(bytes[0], address, bytes[3], written)
+    let digits = number(bytes);
+    let (bank, address) = ((digits >> 28) as u8, (digits >> 12) as u16);
+    access(
+        bank,
+        address,
+        (digits >> 4) as u8,
+        written,
+        digits as u8 & 0x0F,
+    )
 }

@@ -1,5 +1,6 @@
 //! What the opcodes do: the bus cycles after the fetch, in the order of time.
 
+use crate::bus::Purpose::{self, Data, Operand, Pointer, Wasted};
 use crate::core::{Core, IRQ_VECTOR};
 use crate::opcodes::{Instruction, Register};
 use crate::record::{BIT_4, BIT_5, C, N, V, Z};
@@ -23,14 +24,20 @@ pub enum Mode {
 
 use Mode::*;
 
-/// `early` is the read at the old page with the summed low byte, which a,X, a,Y and (z),Y begin with.
+/// `early` is the read at the old page with the summed low byte, which a,X, a,Y and (z),Y begin with; `purpose` is what
+/// a read at `data` is for.
 struct Place {
     early: Option<u16>,
     data: u16,
+    purpose: Purpose,
 }
 
 fn plain(data: u16) -> Place {
-    Place { early: None, data }
+    Place {
+        early: None,
+        data,
+        purpose: Data,
+    }
 }
 
 fn indexed(base: u16, index: u8) -> Place {
@@ -38,6 +45,7 @@ fn indexed(base: u16, index: u8) -> Place {
     Place {
         early: Some(base & 0xFF00 | data & 0x00FF),
         data,
+        purpose: Data,
     }
 }
 
@@ -68,20 +76,24 @@ impl<'a> Core<'a> {
 
     fn place(&mut self, mode: Mode) -> Place {
         match mode {
+            // "Immediate: operand."
             Immediate => {
                 let operand = self.pc;
                 self.pc = self.pc.wrapping_add(1);
-                plain(operand)
+                Place {
+                    purpose: Operand,
+                    ..plain(operand)
+                }
             }
-            Zero => plain(u16::from(self.fetch())),
+            Zero => plain(u16::from(self.fetch(Operand))),
             ZeroX => self.zero_page(self.x),
             ZeroY => self.zero_page(self.y),
             Absolute => plain(self.fetch_word()),
             AbsoluteX => indexed(self.fetch_word(), self.x),
             AbsoluteY => indexed(self.fetch_word(), self.y),
             IndirectX => {
-                let unindexed = self.fetch();
-                self.read(u16::from(unindexed));
+                let unindexed = self.fetch(Operand);
+                self.read(Wasted, u16::from(unindexed));
                 plain(self.pointer(u16::from(unindexed.wrapping_add(self.x))))
             }
             IndirectY => self.indirect_y(),
@@ -94,44 +106,38 @@ impl<'a> Core<'a> {
     }
 
     fn zero_page(&mut self, index: u8) -> Place {
-        let unindexed = self.fetch();
-        self.read(u16::from(unindexed));
+        let unindexed = self.fetch(Operand);
+        self.read(Wasted, u16::from(unindexed));
         plain(u16::from(unindexed.wrapping_add(index)))
     }
 
     fn indirect_y(&mut self) -> Place {
-        let z = self.fetch();
+        let z = self.fetch(Operand);
         indexed(self.pointer(u16::from(z)), self.y)
     }
 
     /// Both bytes lie in one page: those of (z,X) and (z),Y in page zero, those of JMP (80FF) at 80FF and 8000.
     fn pointer(&mut self, at: u16) -> u16 {
         let [first, page] = at.to_le_bytes();
-        let low = self.read(at);
-        let high = self.read(u16::from_le_bytes([first.wrapping_add(1), page]));
+        let low = self.read(Pointer, at);
+        let high = self.read(Pointer, u16::from_le_bytes([first.wrapping_add(1), page]));
         u16::from_le_bytes([low, high])
     }
 
+    /// A load stops at the early read if no page was crossed: there it has its data.
     fn load(&mut self, mode: Mode) -> u8 {
         let place = self.place(mode);
-        match place.early {
-            Some(early) => {
-                let value = self.read(early);
-                if early == place.data {
-                    value
-                } else {
-                    self.read(place.data)
-                }
-            }
-            None => self.read(place.data),
+        if let Some(early) = place.early.filter(|&early| early != place.data) {
+            self.read(Wasted, early);
         }
+        self.read(place.purpose, place.data)
     }
 
     /// Stores, shifts, INC and DEC never stop at the early read.
     fn target(&mut self, mode: Mode) -> u16 {
         let place = self.place(mode);
         if let Some(early) = place.early {
-            self.read(early);
+            self.read(Wasted, early);
         }
         place.data
     }
@@ -143,15 +149,15 @@ impl<'a> Core<'a> {
             Register::Y => self.y,
         };
         let address = self.target(mode);
-        self.write(address, value);
+        self.write(Data, address, value);
     }
 
     fn change(&mut self, mode: Mode, change: fn(&mut Self, u8) -> u8) {
         let address = self.target(mode);
-        let value = self.read(address);
-        self.write(address, value);
+        let value = self.read(Data, address);
+        self.write(Wasted, address, value);
         let result = change(self, value);
-        self.write(address, result);
+        self.write(Data, address, result);
     }
 
     fn change_a(&mut self, change: fn(&mut Self, u8) -> u8) {
@@ -161,7 +167,7 @@ impl<'a> Core<'a> {
     }
 
     fn implied(&mut self) {
-        self.read(self.pc);
+        self.read(Wasted, self.pc);
     }
 
     pub fn lda(&mut self, mode: Mode) {
@@ -263,12 +269,12 @@ impl<'a> Core<'a> {
 
     /// A crossing is judged from the next instruction's address, not from the branch's own.
     fn branch(&mut self, taken: bool) {
-        let offset = self.fetch() as i8;
+        let offset = self.fetch(Operand) as i8;
         if taken {
-            self.read(self.pc);
+            self.read(Wasted, self.pc);
             let target = self.pc.wrapping_add(offset as u16);
             if target >> 8 != self.pc >> 8 {
-                self.read(self.pc & 0xFF00 | target & 0x00FF);
+                self.read(Wasted, self.pc & 0xFF00 | target & 0x00FF);
             }
             self.pc = target;
         }
@@ -285,29 +291,29 @@ impl<'a> Core<'a> {
 
     /// The pushes come before the high operand is read, and may have changed it.
     fn jsr(&mut self) {
-        let low = self.fetch();
-        self.read_stack();
+        let low = self.fetch(Operand);
+        self.read_stack(Wasted);
         self.push_pc();
-        let high = self.fetch();
+        let high = self.fetch(Operand);
         self.pc = u16::from_le_bytes([low, high]);
     }
 
     fn rts(&mut self) {
         self.implied();
-        self.read_stack();
+        self.read_stack(Wasted);
         self.pc = self.pull_word();
-        self.fetch();
+        self.fetch(Wasted);
     }
 
     fn rti(&mut self) {
         self.implied();
-        self.read_stack();
+        self.read_stack(Wasted);
         self.p = self.pull() & !BIT_4 | BIT_5;
         self.pc = self.pull_word();
     }
 
     fn brk(&mut self) {
-        self.fetch();
+        self.fetch(Wasted);
         self.push_pc();
         self.push(self.p | BIT_4);
         self.enter(IRQ_VECTOR);
@@ -320,7 +326,7 @@ impl<'a> Core<'a> {
 
     fn plp(&mut self) {
         self.implied();
-        self.read_stack();
+        self.read_stack(Wasted);
         self.p = self.pull() & !BIT_4 | BIT_5;
     }
 
@@ -331,7 +337,7 @@ impl<'a> Core<'a> {
 
     fn pla(&mut self) {
         self.implied();
-        self.read_stack();
+        self.read_stack(Wasted);
         self.a = self.pull();
         self.set_nz(self.a);
     }

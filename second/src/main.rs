@@ -24,6 +24,7 @@ mod pair;
 mod program;
 mod promise;
 mod published;
+mod purposes;
 mod random;
 mod record;
 mod report;
@@ -39,6 +40,7 @@ use std::time::{SystemTime, UNIX_EPOCH};
 
 const USAGE: &str = "usage:
   second compare --steps N [--seed S] [--core CORE]
+  second purposes --steps N [--seed S] [--core CORE]
   second runs --runs N [--seed S] [--core CORE]
   second restart [--seed S]
   second admission --maps N [--seed S]
@@ -52,10 +54,10 @@ const USAGE: &str = "usage:
   second json [--core CORE] FILE...
   second bench [--core CORE --line LINE --steps N]
 
-CORE is archive, yardstick or per-part. Without it, compare, runs, promise, pages, arithmetic, image and json take the
-archive, or the yardstick where the program was built without one, and examples takes every core. Only the archive has
-restart and admission, and per-part does not count pages. With a line of its table, bench plays that line and prints
-nothing.
+CORE is archive, yardstick or per-part. Without it, compare, purposes, runs, promise, pages, arithmetic, image and json
+take the archive, or the yardstick where the program was built without one, and examples takes every core. Only the
+archive has restart and admission, and per-part does not count pages. With a line of its table, bench plays that line
+and prints nothing.
 
 image plays a self-checking 6502 image until it stands still, which must be at --success. It is a file of 65,536 bytes,
 or one that goes to --load. json plays the cases of files in the published layout, an instruction each. page-report
@@ -92,6 +94,7 @@ fn main() {
     }
     let passed = match (command.as_str(), count) {
         ("compare", Some(("--steps", steps))) => compare::compare(core, steps, seed),
+        ("purposes", Some(("--steps", steps))) => purposes::purposes(core, steps, seed),
         ("runs", Some(("--runs", runs))) => runs::runs(core, runs, seed),
         #[cfg(not(yardstick_only))]
         ("restart", None) => restarts::restarts(seed),

@@ -39,7 +39,8 @@ pub fn total(reads: &Counts, writes: &Counts) -> u128 {
         .sum()
 }
 
-/// "A record with byte 4 above 1 or bytes 5 to 7 not zero" is none. "On the 6509 banks are ignored."
+/// "A record with byte 4 above 1" is none, and "21 now judges byte 5 as 0 to 7, where 0 is a list from before this
+/// change, and bytes 6 and 7 as zero". "On the 6509 banks are ignored."
 fn is_well_formed(record: &[u8]) -> bool {
-    record[4] <= 1 && record[5..] == [0, 0, 0]
+    record[4] <= 1 && record[5] <= 7 && record[6..] == [0, 0]
 }

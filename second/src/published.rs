@@ -1,4 +1,5 @@
 //! Cases in the layout of the published suites of single instructions: a step of each, held to all that the case says.
+//! That is an address, a value and a kind for each access: in its purpose the core is held to the second program alone.
 
 mod case;
 
@@ -8,7 +9,7 @@ use crate::cores::Tested;
 use crate::json;
 use crate::opcodes::decode;
 use crate::pair::{Lent, Pair};
-use case::{list, Case};
+use case::{list, Case, TOLD};
 
 const RECORD: [&str; 16] = [
     "part", "A", "X", "Y", "S", "P", "PC low", "PC high", "byte 8", "byte 9", "byte 10", "byte 11",
@@ -26,7 +27,7 @@ enum Kind {
 struct Wanted {
     word: u64,
     record: [u8; 16],
-    list: Vec<[u8; ACCESS]>,
+    list: Vec<[u8; TOLD]>,
     image: Vec<u8>,
 }
 
@@ -77,6 +78,7 @@ fn play(core: Tested, case: &Case) -> Result<Kind, String> {
         None => (Kind::Refused, refused(case, &image, opcode)),
     };
     let mut pair = Pair::new(core, case.before.record, image, MOST_ACCESSES * ACCESS);
+    // Their lists are compared whole, purposes too.
     let word = pair.step()?;
     pair.compare_images()?;
     match difference(word, &pair.theirs, &wanted) {
@@ -118,7 +120,7 @@ fn difference(word: u64, lent: &Lent, wanted: &Wanted) -> Option<String> {
     }
     let listed = lent.accesses.chunks(ACCESS).zip(&wanted.list);
     for ((listed, cycle), number) in listed.zip(1..) {
-        if listed != cycle {
+        if listed[..TOLD] != cycle[..] {
             let (listed, cycle) = (shown(listed), shown(cycle));
             return Some(format!("cycle {} is {}, wanted {}", number, listed, cycle));
         }

@@ -113,12 +113,13 @@ fn played() -> Vec<u8> {
     list
 }
 
-/// Any addresses, read or written.
+/// Any addresses, read or written, for any purpose.
 fn at_random() -> Vec<u8> {
     let mut random = Random::new(1);
     let record = |_| {
-        let [low, high, bank, value, written, ..] = random.next().to_le_bytes();
-        access(bank, u16::from_le_bytes([low, high]), value, written & 1)
+        let [low, high, bank, value, written, purpose, ..] = random.next().to_le_bytes();
+        let address = u16::from_le_bytes([low, high]);
+        access(bank, address, value, written & 1, purpose & 7)
     };
     (0..MILLION).flat_map(record).collect()
 }

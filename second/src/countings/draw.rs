@@ -13,8 +13,8 @@ use crate::runs::draw::{Draw as Runs, LONGEST_ROOM};
 pub enum Fault {
     /// So many bytes of a record are left at its end.
     Cut(usize),
-    /// Of a record, the byte that is wrong.
-    Record(usize),
+    /// Of a record, the byte that is wrong, and what it is.
+    Record(usize, u8),
     Total,
 }
 
@@ -22,7 +22,7 @@ impl Fault {
     pub fn number(self) -> u64 {
         match self {
             Fault::Cut(_) => 20,
-            Fault::Record(_) => 21,
+            Fault::Record(..) => 21,
             Fault::Total => 22,
         }
     }
@@ -72,14 +72,15 @@ impl Draw {
     }
 }
 
-/// Records of any pages, or of few or one. The bytes that do not count are random.
+/// Records of any pages, or of few or one. The bytes that do not count are random, so far as a list may have them.
 pub fn records(random: &mut Random, records: usize) -> Vec<u8> {
     let (page, others) = (random.byte(), random.pick(&[0x00, 0x01, 0x0F, 0x80, 0xFF]));
     let mut list = Vec::with_capacity(records * ACCESS);
     for _ in 0..records {
         let bytes = random.next().to_le_bytes();
         let address = u16::from_le_bytes([bytes[0], page ^ bytes[1] & others]);
-        list.extend(access(bytes[2], address, bytes[3], bytes[4] & 1));
+        let (written, purpose) = (bytes[4] & 1, bytes[5] & 7);
+        list.extend(access(bytes[2], address, bytes[3], written, purpose));
     }
     list
 }
@@ -105,7 +106,7 @@ pub fn cut(random: &mut Random, list: &mut Vec<u8>) -> Option<Fault> {
     Some(Fault::Cut(left))
 }
 
-/// Spoils a record. None where the list has none.
+/// Spoils a record. None where the list has none, or where byte 5 has become another that is right.
 pub fn malform(random: &mut Random, list: &mut [u8]) -> Option<Fault> {
     let record = any_record(random, list)?;
     let byte = random.between(4, 7);
@@ -113,9 +114,21 @@ pub fn malform(random: &mut Random, list: &mut [u8]) -> Option<Fault> {
         true => 1 << random.below(8),
         false => random.byte(),
     };
-    let least = if byte == 4 { 2 } else { 1 };
-    list[record * ACCESS + byte] = value.max(least);
-    Some(Fault::Record(byte))
+    let value = match byte {
+        5 => random.pick(&[7, 8, value, value]),
+        _ => value.max(least_bad(byte)),
+    };
+    list[record * ACCESS + byte] = value;
+    (value >= least_bad(byte)).then_some(Fault::Record(byte, value))
+}
+
+/// From this value on, a byte of a record is bad. Bytes 0 to 3 have none.
+pub fn least_bad(byte: usize) -> u8 {
+    match byte {
+        4 => 2,
+        5 => 8,
+        _ => 1,
+    }
 }
 
 /// The first and the last are drawn more often.

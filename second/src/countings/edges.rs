@@ -1,6 +1,6 @@
 //! What is tried whole and not by chance: every length, every value of every byte, every way to the edge of the total.
 
-use super::draw::records;
+use super::draw::{least_bad, records};
 use super::lent::{Tables, ALL};
 use super::Comparison;
 use crate::bus::{access, ACCESS};
@@ -10,7 +10,7 @@ const LONGEST: usize = 300;
 /// Around the lengths at which a loop that takes several records at once would change its way.
 const BYTES_OF: [usize; 14] = [1, 2, 3, 4, 5, 7, 8, 9, 15, 16, 17, 31, 32, 33];
 const RECORDS_AT_THE_EDGE: [usize; 8] = [0, 1, 2, 3, 8, 9, 64, 100];
-const BAD_ALIKE: [usize; 5] = [2, 64, 128, 256, 65_536];
+const ALIKE: [usize; 6] = [2, 32, 64, 128, 256, 65_536];
 const LONG: [usize; 2] = [70_000, 1_000_000];
 
 impl Comparison {
@@ -31,7 +31,7 @@ impl Comparison {
             for bad in [None, Some(0), Some(whole.max(1) - 1)] {
                 let mut list = list[..length].to_vec();
                 if let Some(byte) = bad.and_then(|record| list.get_mut(record * ACCESS + 5)) {
-                    *byte = 1;
+                    *byte = least_bad(5);
                 }
                 for is_full in [false, true] {
                     let word = match (length % ACCESS, bad, is_full) {
@@ -77,8 +77,9 @@ impl Comparison {
         true
     }
 
-    /// Two bad bytes of one record or of two, equal or adding up to 256; and lists of nothing but bad records. Whoever
-    /// adds bad bytes up finds none in some of them.
+    /// Two bytes of one record or of two, equal or adding up to 256, both bad but where one is a purpose; and lists of
+    /// nothing but bad records, or of the last purpose. Whoever adds bytes up finds nothing bad in some of them, or
+    /// something bad where all is right.
     fn pairs_of_bytes(&mut self) -> bool {
         let right = records(&mut self.random, 2);
         for one in 0..right.len() {
@@ -88,18 +89,27 @@ impl Comparison {
                         let mut list = right.clone();
                         list[one] = value;
                         list[other] = second;
+                        let word = match is_bad(one, value) || is_bad(other, second) {
+                            true => 21,
+                            false => 0,
+                        };
                         self.set(&Tables::zero());
-                        if !self.feed(&list, Some(21)) {
+                        if !self.feed(&list, Some(word)) {
                             return false;
                         }
                     }
                 }
             }
         }
-        for count in BAD_ALIKE {
+        let right = access(0, 0x1234, 0, 0, 7);
+        for count in ALIKE {
+            self.set(&Tables::zero());
+            if !self.feed(&right.repeat(count), Some(0)) {
+                return false;
+            }
             for at in 4..ACCESS {
-                let mut record = access(0, 0x1234, 0, 0);
-                record[at] = if at == 4 { 2 } else { 1 };
+                let mut record = right;
+                record[at] = least_bad(at);
                 self.set(&Tables::zero());
                 if !self.feed(&record.repeat(count), Some(21)) {
                     return false;
@@ -116,7 +126,8 @@ impl Comparison {
         for count in RECORDS_AT_THE_EDGE {
             let most = u128::from(u64::MAX) - count as u128;
             for holder in 0..ALL {
-                let record = access(0, (holder % PAGES) as u16 * 256, 0, (holder / PAGES) as u8);
+                let (page, written) = (holder % PAGES, holder / PAGES);
+                let record = access(0, page as u16 * 256, 0, written as u8, 0);
                 let list = record.repeat(count);
                 let mut tables = Tables::zero();
                 *tables.at(holder) = most as u64;
@@ -177,7 +188,7 @@ impl Comparison {
             for is_mixed in [false, true] {
                 let list = match is_mixed {
                     true => records(&mut self.random, count),
-                    false => access(0, 0x1234, 0, 1).repeat(count),
+                    false => access(0, 0x1234, 0, 1, 5).repeat(count),
                 };
                 self.set(&Tables::zero());
                 if !self.feed(&list, Some(0)) {
@@ -197,5 +208,5 @@ impl Comparison {
 }
 
 fn is_bad(at: usize, value: u8) -> bool {
-    matches!((at % ACCESS, value), (4, 2..) | (5..=7, 1..))
+    at % ACCESS >= 4 && value >= least_bad(at % ACCESS)
 }

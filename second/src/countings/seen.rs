@@ -44,7 +44,9 @@ const SEVERAL: [&str; 4] = [
     "20 before 21 and 22",
 ];
 const BYTES_LEFT: [&str; ACCESS - 1] = ["1", "2", "3", "4", "5", "6", "7"];
-const BAD_BYTES: [&str; 4] = ["4 above 1", "5", "6", "7"];
+const BAD_BYTES: [&str; 4] = ["4 above 1", "5 above 7", "6", "7"];
+/// What byte 5 of a record that is counted may be: 0, and the purposes.
+const PURPOSES: usize = 8;
 /// Lists that are cut at 13 places or more are taken together.
 const MANY: usize = 14;
 
@@ -61,11 +63,13 @@ pub struct Seen {
     long: u64,
     reads: Counts,
     writes: Counts,
+    purposes: [u64; PURPOSES],
     shifts: [u64; MOST_SHIFT + 1],
     empties: [u64; EMPTY.len()],
     numbers: [u64; NUMBERS.len()],
     cuts: [u64; BYTES_LEFT.len()],
     bad_bytes: [u64; BAD_BYTES.len()],
+    past_purposes: u64,
     full: u64,
     several: [u64; SEVERAL.len()],
 }
@@ -84,11 +88,13 @@ impl Seen {
             long: 0,
             reads: [0; PAGES],
             writes: [0; PAGES],
+            purposes: [0; PURPOSES],
             shifts: [0; MOST_SHIFT + 1],
             empties: [0; EMPTY.len()],
             numbers: [0; NUMBERS.len()],
             cuts: [0; BYTES_LEFT.len()],
             bad_bytes: [0; BAD_BYTES.len()],
+            past_purposes: 0,
             full: 0,
             several: [0; SEVERAL.len()],
         }
@@ -133,6 +139,7 @@ impl Seen {
                 0 => self.reads[usize::from(record[1])] += 1,
                 _ => self.writes[usize::from(record[1])] += 1,
             }
+            self.purposes[usize::from(record[5])] += 1;
         }
     }
 
@@ -165,11 +172,14 @@ impl Seen {
     pub fn note_faults(&mut self, faults: &[Fault]) {
         match faults {
             [Fault::Cut(left)] => self.cuts[left - 1] += 1,
-            [Fault::Record(byte)] => self.bad_bytes[byte - 4] += 1,
+            [Fault::Record(byte, value)] => {
+                self.bad_bytes[byte - 4] += 1;
+                self.past_purposes += u64::from((*byte, *value) == (5, 8));
+            }
             [Fault::Total] => self.full += 1,
-            [Fault::Cut(_), Fault::Record(_)] => self.several[0] += 1,
+            [Fault::Cut(_), Fault::Record(..)] => self.several[0] += 1,
             [Fault::Cut(_), Fault::Total] => self.several[1] += 1,
-            [Fault::Record(_), Fault::Total] => self.several[2] += 1,
+            [Fault::Record(..), Fault::Total] => self.several[2] += 1,
             _ => self.several[3] += 1,
         }
     }
@@ -190,6 +200,7 @@ impl Seen {
         report.row("list of over 65,536 records", self.long);
         report.rarest("reads, page 0 to 255", &self.reads);
         report.rarest("writes, page 0 to 255", &self.writes);
+        report.rarest("counted, byte 5 from 0 to 7", &self.purposes);
         report.rarest("list shifted by 0 to 7 bytes", &self.shifts);
         report.rows("empty list at ", &EMPTIES, &self.empties);
         report.rarest("cut at 0 to 13 places or more", &self.pieces);
@@ -201,6 +212,7 @@ impl Seen {
         println!("one fault alone:");
         report.rows("20: bytes left ", &BYTES_LEFT, &self.cuts);
         report.rows("21: byte ", &BAD_BYTES, &self.bad_bytes);
+        report.row("21: byte 5 is 8", self.past_purposes);
         report.row("22", self.full);
         println!("several faults:");
         report.rows("", &SEVERAL, &self.several);

@@ -1,7 +1,7 @@
 //! The kinds of steps that are done, each told from the states around it and the list of its accesses.
 
 use super::Coverage;
-use crate::bus::{ACCESS, BANK, MOST_ACCESSES};
+use crate::bus::{purpose_of, Purpose, ACCESS, BANK, MOST_ACCESSES};
 use crate::cases::Case;
 use crate::record::{Part, Record, D, I};
 use crate::report::{kinds, part_index};
@@ -71,6 +71,16 @@ kinds! {
     Banks8 "9" "k = 8",
     Banks16 "9" "k = 16",
     CountWrap "289" "cycle count past 2^32",
+    Opcode "289" "opcode read",
+    Operand "289" "operand read",
+    WastedRead "289" "wasted read",
+    WastedWrite "289" "wasted write",
+    Pointer "289" "pointer read",
+    DataRead "289" "data read",
+    DataWrite "289" "data write",
+    StackRead "289" "stack read",
+    StackWrite "289" "stack write",
+    Vector "289" "vector read",
 }
 
 #[derive(Clone, Copy, Default)]
@@ -78,6 +88,7 @@ struct Access {
     address: u16,
     value: u8,
     written: bool,
+    purpose: Option<Purpose>,
 }
 
 /// Counts what a step that was done shows of.
@@ -94,6 +105,7 @@ pub fn note(
         access.address = u16::from_le_bytes([bytes[0], bytes[1]]);
         access.value = bytes[3];
         access.written = bytes[4] == 1;
+        access.purpose = purpose_of(bytes);
     }
     let mut step = Step {
         coverage,
@@ -136,6 +148,7 @@ impl Step<'_> {
         self.saw_if(self.after.cycles < before.cycles, Kind::CountWrap);
         self.saw_if(nmi && !edge && !res, Kind::NmiHeld);
         self.saw_if(!nmi && before.nmi_level == 1, Kind::NmiReleased);
+        self.note_purposes();
         self.note_writes();
         if before.part == Part::Mos6509 {
             self.note_banks();
@@ -160,6 +173,25 @@ impl Step<'_> {
         self.saw_if(has_registers && before.pc < 2, Kind::EntryRegister);
         let at_pc = usize::from(self.list[0].value);
         self.saw_if(!self.coverage.is_defined[at_pc], Kind::EntryUndefined);
+    }
+
+    fn note_purposes(&mut self) {
+        for access in self.list {
+            let kind = match (access.purpose, access.written) {
+                (Some(Purpose::Opcode), false) => Kind::Opcode,
+                (Some(Purpose::Operand), false) => Kind::Operand,
+                (Some(Purpose::Wasted), false) => Kind::WastedRead,
+                (Some(Purpose::Wasted), true) => Kind::WastedWrite,
+                (Some(Purpose::Pointer), false) => Kind::Pointer,
+                (Some(Purpose::Data), false) => Kind::DataRead,
+                (Some(Purpose::Data), true) => Kind::DataWrite,
+                (Some(Purpose::Stack), false) => Kind::StackRead,
+                (Some(Purpose::Stack), true) => Kind::StackWrite,
+                (Some(Purpose::Vector), false) => Kind::Vector,
+                _ => continue,
+            };
+            self.saw(kind);
+        }
     }
 
     fn note_writes(&mut self) {

@@ -1,14 +1,18 @@
 //! A case of the published layout: registers and memory before and after one instruction, and each of its cycles.
 
-use crate::bus::{access, ACCESS, BANK};
+use crate::bus::BANK;
 use crate::json::Value;
 use crate::record::{of_6502, pc_of, BIT_4, BIT_5};
+
+/// What a cycle says of its access: address low, high, bank, value, 0 or 1. Of the purpose the published layout says
+/// nothing.
+pub const TOLD: usize = 5;
 
 pub struct Case {
     pub name: String,
     pub before: State,
     pub after: State,
-    pub list: Vec<[u8; ACCESS]>,
+    pub list: Vec<[u8; TOLD]>,
 }
 
 pub struct State {
@@ -72,9 +76,9 @@ fn cell(value: &Value) -> Result<(u16, u8), String> {
     }
 }
 
-fn cycle(value: &Value) -> Result<[u8; ACCESS], String> {
+fn cycle(value: &Value) -> Result<[u8; TOLD], String> {
     let (address, byte, kind) = match list(value)? {
-        [address, byte, kind] => (number(address)?, number(byte)?, text(kind)?),
+        [address, byte, kind] => (number::<u16>(address)?, number(byte)?, text(kind)?),
         _ => return Err("no address with its byte and its kind".to_string()),
     };
     let written = match kind.as_str() {
@@ -82,7 +86,8 @@ fn cycle(value: &Value) -> Result<[u8; ACCESS], String> {
         "write" => 1,
         _ => return Err(format!("\"{}\" is neither read nor write", kind)),
     };
-    Ok(access(0, address, byte, written))
+    let [low, high] = address.to_le_bytes();
+    Ok([low, high, 0, byte, written])
 }
 
 /// Any other key is passed over.

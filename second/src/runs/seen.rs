@@ -5,7 +5,7 @@ mod steps;
 pub use steps::Step;
 
 use super::draw::Drawn;
-use crate::bus::{Bus, ACCESS, BANK};
+use crate::bus::{Bus, Purpose, ACCESS, BANK};
 use crate::cases::{
     defined_opcodes, Fault, IMAGE_FAULTS, LEAST_ROOM, LONGEST_RECORD, RECORD_FAULTS,
 };
@@ -199,7 +199,7 @@ impl Seen {
             self.saw_if(pins != 0, part, Kind::LaterPins);
         }
         // The opcode at PC, where no line would take the processor away from it.
-        let opcode = Bus::new(&record, pins, image).read(record.pc);
+        let opcode = Bus::new(&record, pins, image).read(Purpose::Opcode, record.pc);
         let is_undefined = lines & 7 == 0 && !self.is_defined[usize::from(opcode)];
         let is_short = left < LEAST_ROOM;
         self.saw_if(number == 4 && is_short, part, Kind::Order45);
