@@ -5,7 +5,7 @@
    status is 0 if all came as expected.
 
    Each call has a function of its own: wankitare_admit is in admit, wankitare_run in rehearse, wankitare_step in step,
-   wankitare_pages in count_pages, wankitare_append_at in save, wankitare_restart in restart. */
+   wankitare_pages in count_list, wankitare_append_at in save, wankitare_restart in restart. */
 
 #define _POSIX_C_SOURCE 200809L
 
@@ -57,11 +57,13 @@ static unsigned shown;          /* the load that was shown last */
 static int restart_file, ram_file;
 
 /* A logger hangs on the bus, with power of its own: what a dip makes the blade do twice, it sees twice. It keeps the
-   latest accesses in a list, all of them in a file, and how many reads and writes each page had. */
+   latest accesses in a list, all of them in a file, how many reads and writes each page had, and how many accesses each
+   purpose. */
+enum { PURPOSES = WANKITARE_FOR_VECTOR + 1 };
 static uint8_t list[1000 * WANKITARE_STEP_ROOM];
 static size_t list_length;
 static int list_file;
-static uint64_t reads[WANKITARE_PAGES], writes[WANKITARE_PAGES];
+static uint64_t reads[WANKITARE_PAGES], writes[WANKITARE_PAGES], purposes[PURPOSES];
 
 /* Of the trial, not of a board: how many bytes can be written until the power fails; what the last save that was
    completed has saved, and how many were; how many accesses the steps have made. */
@@ -91,6 +93,16 @@ static const char *const sentences[] = {
     [WANKITARE_LIST_LENGTH] = "the list of accesses ends with a part of one",
     [WANKITARE_LIST_RECORD] = "the list has an access that no step makes",
     [WANKITARE_TOTAL] = "all counts together would pass 64 bits",
+};
+
+static const char *const names[PURPOSES] = {
+    [WANKITARE_FOR_OPCODE] = "opcode",
+    [WANKITARE_FOR_OPERAND] = "operand",
+    [WANKITARE_FOR_WASTED] = "wasted",
+    [WANKITARE_FOR_POINTER] = "pointer",
+    [WANKITARE_FOR_DATA] = "data",
+    [WANKITARE_FOR_STACK] = "stack",
+    [WANKITARE_FOR_VECTOR] = "vector",
 };
 
 static const char *sentence(uint64_t word)
@@ -201,11 +213,13 @@ static int save(void)
 
 /* ---- What the logger keeps ---- */
 
-/* Counts the list by page, and writes it behind those before it. That is done for many steps at a time, since a call
-   goes over all counts once, however short the list. */
-static void count_pages(void)
+/* Counts the list by page and by purpose, and writes it behind those before it. That is done for many steps at a time,
+   since a call goes over all counts of pages once, however short the list. */
+static void count_list(void)
 {
-    stop_if_refused(wankitare_pages(reads, writes, list, list_length), "a list");
+    stop_if_refused(wankitare_pages(reads, writes, list, list_length), "a list"); /* by 21 if it has another purpose */
+    for (size_t at = 0; at < list_length; at += ACCESS)
+        purposes[list[at + WANKITARE_AT_PURPOSE]]++;
     must(write(list_file, list, list_length) == (ssize_t)list_length, "accesses");
     list_length = 0;
 }
@@ -214,18 +228,28 @@ static void count_pages(void)
 static void log_accesses(const uint8_t *accesses, size_t length)
 {
     if (length > sizeof list - list_length)
-        count_pages();
+        count_list();
     memcpy(list + list_length, accesses, length);
     list_length += length;
 }
 
-static uint64_t total(const uint64_t *counts)
+static uint64_t total(const uint64_t *counts, unsigned length)
 {
     uint64_t all = 0;
 
-    for (unsigned page = 0; page < WANKITARE_PAGES; page++)
-        all += counts[page];
+    for (unsigned i = 0; i < length; i++)
+        all += counts[i];
     return all;
+}
+
+/* Each access is a cycle. */
+static void show_purposes(void)
+{
+    tell("-- what its %lu cycles were for:", (unsigned long)made);
+    for (unsigned purpose = WANKITARE_FOR_OPCODE; purpose < PURPOSES; purpose++)
+        tell("   %u %-8s%6lu  %4.1f %%", purpose, names[purpose], (unsigned long)purposes[purpose],
+             100.0 * (double)purposes[purpose] / (double)made);
+    tell("-- %lu of them are wasted", (unsigned long)purposes[WANKITARE_FOR_WASTED]);
 }
 
 /* ---- What the firmware sees of the board, and the board of the firmware ---- */
@@ -448,6 +472,7 @@ static void work_through(int dips, uint32_t seed)
     must(ftruncate(restart_file, 0) == 0 && ftruncate(ram_file, 0) == 0 && ftruncate(list_file, 0) == 0, "files");
     memset(reads, 0, sizeof reads);
     memset(writes, 0, sizeof writes);
+    memset(purposes, 0, sizeof purposes);
     saves = 0;
     made = 0;
     for (; dips > 0; dips--) {
@@ -458,8 +483,10 @@ static void work_through(int dips, uint32_t seed)
     expect(work(), "the power stays");
     expect(relays == expected(END)->outlets && sum() == expected(END)->load, "in the end these outlets are on");
     expect(blade.image[STAGE] == COUNT && blade.image[SERVED] == REQUESTS, "the firmware has counted right");
-    count_pages();
-    expect(total(reads) + total(writes) == made, "the counts of all pages together are the accesses");
+    count_list();
+    expect(total(reads, WANKITARE_PAGES) + total(writes, WANKITARE_PAGES) == made,
+           "the counts of all pages together are the accesses");
+    expect(purposes[0] == 0 && total(purposes, PURPOSES) == made, "those of the seven purposes are too");
     expect(lseek(list_file, 0, SEEK_END) == (off_t)(made * ACCESS), "the logger's file has the accesses");
 }
 
@@ -494,7 +521,9 @@ int main(int count, char **words)
     quiet = 0;
     work_through(DIPS, seed);
     expect(memcmp(&blade, &undisturbed, sizeof blade) == 0, "a blade whose power never fails ends with the same bytes");
-    tell("-- the bus saw %lu reads and %lu writes", (unsigned long)total(reads), (unsigned long)total(writes));
+    tell("-- the bus saw %lu reads and %lu writes", (unsigned long)total(reads, WANKITARE_PAGES),
+         (unsigned long)total(writes, WANKITARE_PAGES));
+    show_purposes();
     if (!failed)
         tell("-- all as expected; record and image end as if the power had never failed");
     return failed;

@@ -171,8 +171,9 @@ enum {
        not taken. */
     WANKITARE_FOR_OPERAND = 2,
 
-    /* A read whose value is not used (the first of an indexed store, or of an indexed load that crosses a page; both of
-       PC by a reset or an interrupt), or the write by which a shift, INC or DEC puts the old value back. */
+    /* A read whose value is not used, for instance the first of an indexed store or of an indexed load that crosses a
+       page, and both of PC by a reset or an interrupt; or the write by which a shift, INC or DEC puts the old value
+       back. */
     WANKITARE_FOR_WASTED = 3,
 
     /* One of the two bytes of an address that (z,X), (z),Y or JMP (a) fetches from memory. */
@@ -186,7 +187,7 @@ enum {
        at S, with which pulls begin and JSR its pushes, is wasted). */
     WANKITARE_FOR_STACK = 6,
 
-    /* One of the two bytes of an address from FFFA to FFFF, where a reset, an interrupt or BRK goes on. */
+    /* One of the two bytes, from FFFA to FFFF, that say where a reset, an interrupt or BRK goes on. */
     WANKITARE_FOR_VECTOR = 7
 };
 
