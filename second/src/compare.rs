@@ -95,12 +95,12 @@ impl Comparison {
             self.tell(&case, &places, mine, theirs);
             return false;
         }
-        if !keeps_the_laws(&case, mine, &self.mine.accesses[rooms.clone()]) {
+        let record = &self.mine.record[records];
+        if !keeps_the_laws(&case, mine, record, &self.mine.accesses[rooms.clone()]) {
             println!("the second program breaks a law of purposes");
             self.tell(&case, &places, mine, theirs);
             return false;
         }
-        let record = &self.mine.record[records];
         coverage.note(&case, mine, record, &self.mine.accesses[rooms]);
         self.cases.settle(mine & 0xFF, record);
         true
@@ -174,11 +174,11 @@ fn answers_its_case(case: &Case, word: u64) -> bool {
 }
 
 /// Those of purposes, which only a step that was done can break.
-fn keeps_the_laws(case: &Case, word: u64, accesses: &[u8]) -> bool {
+fn keeps_the_laws(case: &Case, word: u64, record: &[u8], accesses: &[u8]) -> bool {
     match Record::read(&case.record[..case.record_len]) {
         Ok(before) if word & 0xFF == 0 => {
             let list = &accesses[..(word >> 8) as usize * ACCESS];
-            are_lawful(&before, case.lines, list)
+            are_lawful(&before, case.lines, record, list)
         }
         _ => true,
     }

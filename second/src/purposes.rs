@@ -12,38 +12,52 @@ use crate::opcodes::Instruction::Branch;
 use crate::record::{pc_of, Record, I};
 use crate::report::Report;
 
-/// What a step is: the instruction of an opcode, or one of these.
+/// What a step is: the instruction of an opcode, or a reset or the entry to an interrupt.
+const BRK: usize = 0x00;
+const TXS: usize = 0x9A;
 const RESET: usize = 256;
 const INTERRUPT: usize = 257;
 const STEPS: usize = 258;
 
 const PURPOSES: [&str; 7] = ["1", "2", "3", "4", "5", "6", "7"];
 
-/// So often must each read be tried: seldom does a compare, say, answer the same of another value.
+/// So often must each read be tried: of another value a compare, say, may answer the same, but not time after time.
 const LEAST_TRIED: u64 = 20;
 
-/// Whether the laws of purposes hold of a step's list.
-pub fn are_lawful(before: &Record, lines: u8, list: &[u8]) -> bool {
+/// Whether the laws of purposes hold of a step that was done: of the records before and after it, and of its list.
+pub fn are_lawful(before: &Record, lines: u8, after: &[u8], list: &[u8]) -> bool {
     let accesses: Vec<&[u8]> = list.chunks(ACCESS).collect();
-    accesses.iter().enumerate().all(|(at, access)| {
-        let address = address(access);
-        let is_fetch = at == 0 && step_of(before, lines, list) < RESET;
-        let is_of_code = (1..=2).any(|n| address == before.pc.wrapping_add(n));
-        let is_right = match (purpose_of(access), access[4]) {
-            // An instruction's first access, and no other.
-            (Some(Opcode), 0) => is_fetch && address == before.pc,
-            (Some(Operand), 0) => is_of_code,
-            (Some(Wasted | Pointer | Data), 0) => true,
-            // The byte that was just read there is written back.
+    let step = step_of(before, lines, list);
+    let is_lawful = |(at, access): (usize, &&[u8])| {
+        let (address, purpose) = (address(access), purpose_of(access));
+        let behind = accesses.len() - at - 1;
+        let is_fetch = at == 0 && step < RESET;
+        let is_vector = behind < 2 && [BRK, RESET, INTERRUPT].contains(&step);
+        let is_right = match (purpose, access[4]) {
+            (Some(Opcode), 0) => address == before.pc,
+            (Some(Operand), 0) => [1, 2].contains(&address.wrapping_sub(before.pc)),
+            (Some(Wasted), 0) => true,
+            // Behind the opcode stands an operand, or what is read there is wasted.
+            (Some(Pointer | Data), 0) => at > 1,
+            // The byte that was just read there is written back; what is to stay is written last.
             (Some(Wasted), 1) => at > 0 && access[..4] == accesses[at - 1][..4],
-            (Some(Data), 1) => true,
+            (Some(Data), 1) => behind == 0,
             (Some(Stack), _) => address >> 8 == 1,
-            // The last two.
-            (Some(Vector), 0) => address >= 0xFFFA && at + 2 >= accesses.len(),
+            (Some(Vector), 0) => address >= 0xFFFA,
             _ => false,
         };
-        is_right && access[6..] == [0, 0] && is_fetch == (purpose_of(access) == Some(Opcode))
-    })
+        // An instruction's first access is its only opcode; BRK, a reset and an interrupt end with their vector.
+        is_right
+            && (purpose == Some(Opcode)) == is_fetch
+            && (purpose == Some(Vector)) == is_vector
+            && access[6..] == [0, 0]
+    };
+    // Each push and pull moves S by one, and so does each of a reset's stack reads; nothing else moves it but TXS.
+    let is_stack = |access: &&&[u8]| purpose_of(access) == Some(Stack);
+    let stacked = accesses.iter().filter(is_stack).count() as u8;
+    let moved = after[4].wrapping_sub(before.s);
+    let is_moved = step == TXS || moved == stacked || moved == stacked.wrapping_neg();
+    is_moved && accesses.iter().enumerate().all(is_lawful)
 }
 
 /// What is known of an access: of the one at some place in those lists of a step that have one length.
@@ -103,7 +117,7 @@ impl Trial {
         if done.word & 0xFF != 0 {
             return Ok(());
         }
-        if !are_lawful(&before, case.lines, &done.list) {
+        if !are_lawful(&before, case.lines, &done.record, &done.list) {
             self.tell(&case, &done);
             return Err("a law of purposes is broken");
         }
