@@ -17,6 +17,7 @@ kinds! {
     Last "289" "with an access to page FF",
     Register "89" "with an access to a register",
     Banks "9" "of several banks",
+    Purposes "289" "for all seven purposes",
 }
 
 /// What the counts were before a list.
@@ -104,6 +105,7 @@ impl Seen {
     pub fn note_run(&mut self, part: usize, list: &[u8]) {
         let has = |is_so: fn(&[u8]) -> bool| list.chunks(ACCESS).any(is_so);
         let banks = list.chunks(ACCESS).map(|record| record[2]);
+        let is_for = |purpose| list.chunks(ACCESS).any(|record| record[5] == purpose);
         let kinds = [
             (Kind::Run, true),
             (Kind::Long, list.len() > 1000 * ACCESS),
@@ -116,6 +118,7 @@ impl Seen {
                 has(|record| record[0] < 2 && record[1] == 0),
             ),
             (Kind::Banks, banks.clone().min() != banks.max()),
+            (Kind::Purposes, (1..=7).all(is_for)),
         ];
         for (kind, is_so) in kinds {
             self.runs[kind as usize][part] += u64::from(is_so);

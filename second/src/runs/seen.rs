@@ -54,6 +54,7 @@ kinds! {
     Modified "289" "opcode that the run wrote",
     Protected "28" "protected write",
     CountWrap "289" "cycle count past 2^32",
+    Purposes "289" "accesses for all seven purposes",
     Banks1 "9" "k = 1",
     Banks2 "9" "k = 2",
     Banks4 "9" "k = 4",

@@ -21,6 +21,8 @@ pub struct Trail {
     runs: u32,
     execution_bank: u8,
     pins: u8,
+    /// Bit n where the run has an access for purpose n.
+    purposes: u8,
     /// For each bank and address, the last run that wrote there.
     written: Vec<u32>,
 }
@@ -31,6 +33,7 @@ impl Trail {
             runs: 0,
             execution_bank: 0,
             pins: 0,
+            purposes: 0,
             written: vec![0; 16 * BANK],
         }
     }
@@ -55,9 +58,11 @@ impl Step<'_> {
         self.saw_if(seen, self.left == LEAST_ROOM, Kind::Left56);
         if self.number == 0 {
             seen.trail.runs += 1;
+            seen.trail.purposes = 0;
         } else {
             self.note_after(seen);
         }
+        self.note_purposes(seen);
         self.note_writes(seen);
         seen.trail.execution_bank = self.before.registers[0];
         seen.trail.pins = self.pins;
@@ -85,6 +90,16 @@ impl Step<'_> {
         let is_changed = seen.trail.pins != self.pins;
         let is_read = self.list.chunks(ACCESS).any(reads_port);
         self.saw_if(seen, is_changed && is_read, Kind::Pins);
+    }
+
+    /// The step that brings the last of them.
+    fn note_purposes(&self, seen: &mut Seen) {
+        let before = seen.trail.purposes;
+        for access in self.list.chunks(ACCESS) {
+            seen.trail.purposes |= 1 << access[5];
+        }
+        let are_all = seen.trail.purposes == 0xFE && before != 0xFE;
+        self.saw_if(seen, are_all, Kind::Purposes);
     }
 
     fn note_writes(&self, seen: &mut Seen) {
