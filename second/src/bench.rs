@@ -4,10 +4,10 @@
 mod counting;
 
 use crate::bus::{ACCESS, BANK, MOST_ACCESSES};
+use crate::core::step;
 use crate::cores::{self, Noise, Tested};
 #[cfg(not(yardstick_only))]
 use crate::firmware::{Draw, Shape};
-use crate::pair::Pair;
 use crate::program::{PROGRAM, START};
 #[cfg(not(yardstick_only))]
 use crate::random::Random;
@@ -238,11 +238,18 @@ fn all_agree(name: &str, board: &Board) -> bool {
     })
 }
 
-fn agree(core: Tested, board: Board) -> bool {
-    let mut pair = Pair::new(core, board.record, board.image, board.accesses.len());
+fn agree(core: Tested, mut mine: Board) -> bool {
+    let mut theirs = mine.clone();
     (0..AGREED_STEPS).all(|number| {
-        let is_done = pair.step().map_or(false, |word| word & 0xFF == 0);
-        is_done && (number % 1000 != 999 || pair.compare_images().is_ok())
+        let (record, image) = (&mut mine.record, &mut mine.image);
+        let my_word = step(record, image, 0, 0, &mut mine.accesses);
+        let (record, image) = (&mut theirs.record, &mut theirs.image);
+        let their_word = core.step(record, image, 0, 0, &mut theirs.accesses);
+        my_word == their_word
+            && my_word & 0xFF == 0
+            && mine.record == theirs.record
+            && are_same(&mine.accesses, &theirs.accesses)
+            && (number % 1000 != 999 || mine.image == theirs.image)
     })
 }
 
@@ -258,9 +265,16 @@ fn agree_in_runs(core: Tested, mut mine: Board) -> bool {
         my_answer == theirs.run(core)
             && my_answer.word == 0
             && mine.record == theirs.record
-            && mine.accesses == theirs.accesses
+            && are_same(&mine.accesses, &theirs.accesses)
             && mine.image == theirs.image
     })
+}
+
+/// Whether these accesses are the same, or theirs are so but for having no purposes: bench/against may time an archive
+/// from before they were listed.
+fn are_same(mine: &[u8], theirs: &[u8]) -> bool {
+    let mut both = mine.chunks(ACCESS).zip(theirs.chunks(ACCESS));
+    mine == theirs || both.all(|(mine, theirs)| mine[..5] == theirs[..5] && theirs[5..] == [0; 3])
 }
 
 fn nanoseconds(core: Tested, board: &mut Board) -> f64 {
