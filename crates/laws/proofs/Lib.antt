@@ -5,6 +5,7 @@ pub mod Lists
 pub mod Cycles
 pub mod Entries
 pub mod Lengths
+pub mod Purposes
 pub mod Records
 pub mod Steps
 pub mod Runs

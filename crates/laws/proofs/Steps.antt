@@ -1,5 +1,5 @@
 -- The laws of a step.
-use Prim.Native.Nat.{ℕ, _+_, _*_, _%_, _≤_}
+use Prim.Native.Nat.{ℕ, _+_, _*_, _%_, _<_, _≤_}
 use native.Mathlib.Omega.{arith}
 use mathlib.Core.Path.{_≡_, refl, ap, subst, _∙_}
 use mathlib.Core.Bool.{true}
@@ -22,6 +22,7 @@ use Rattle.rules.specs.Step.{stepTests, step}
 use Rattle.laws.proofs.Tests.{Hold, tested-case}
 use Rattle.laws.proofs.Cycles.{most-length}
 use Rattle.laws.proofs.Lengths.{at-most-seven, two-least}
+use Rattle.laws.proofs.Purposes.{Tells, purposes}
 use Rattle.laws.proofs.Records.{formed, ran-fit, level-fits, state-formed}
 
 -- eight bytes an access
@@ -61,6 +62,8 @@ module _ {M : Type 0} (memory : Memory M) (r : List ℕ) (m : M) (lines pins : �
     pub listed : take (8 * n) (o .accesses) ≡ listOf trace
     pub later : drop (8 * n) (o .accesses) ≡ drop (8 * n) buffer
     pub size : length (o .accesses) ≡ length buffer
+    -- document 02, "What each access was for"; S is a byte in every record that C can hand over
+    pub purposes : at r 4 < 256 → Tells e (u .cpu) trace
 
   pub record Lawful (o : Outcome StepAnswer M) : Type 0 where
     -- "no byte moves"
@@ -101,6 +104,7 @@ module _ {M : Type 0} (memory : Memory M) (r : List ℕ) (m : M) (lines pins : �
         listed = take-at (listOf trace) _ (8 * n) size;
         later = drop-at (listOf trace) _ (8 * n) size ∙ ap (λ (i : ℕ). drop i buffer) size;
         size = front-length (listOf trace) buffer (omega arith);
+        purposes = λ h. purposes memory e u m h;
       }
 
   lawful-finished : Hold (stepTests memory r m lines pins buffer) → Lawful (finished lines u (ranOf memory e u m) buffer)

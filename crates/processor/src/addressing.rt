@@ -100,11 +100,10 @@ fn indexed(state: &[u8], w: Wiring, image: &[u8], list: &mut [u8], k: usize, a: 
 fn first_for(near: u16, sum: u16) -> Purpose
     ensures { λ r. ⌜ ((a i : ℕ) → near ≡ oldPage a i → sum ≡ sum16 a i → r ≡ firstFor a i) ⌝ }
 {
-    if sum == near {
-        Purpose::Data
-    } else {
-        Purpose::Wasted
+    if sum != near {
+        return Purpose::Wasted;
     }
+    Purpose::Data
 }
 
 // "A load stops at that first read if no page was crossed"
