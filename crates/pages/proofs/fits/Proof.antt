@@ -2,5 +2,11 @@ use borrow.Author.Tests.{lt-ltb, le-ltb}
 use Rattle.pages.proofs.fits.Statement.{statement}
 use Rattle.pages.proofs.fits.Tie as tie
 
+returns : tie.Need-returns
+returns c = rw (lt-ltb (c .before .args .end) 2048 (c .if1 .taken))
+
+returns-2 : tie.Need-returns-2
+returns-2 c = rw (le-ltb (c .before .args .end) 2048 (c .if1 .left))
+
 pub fits-spec : {M : Type 1} → statement M
-fits-spec = tie.close (tie.spec (λ c. rw (lt-ltb _ _ (c .if1 .taken))) (λ c. rw (le-ltb _ _ (c .if1 .left))))
+fits-spec = tie.close (tie.spec returns returns-2)
