@@ -6,7 +6,7 @@ ghost use mathlib.Core.Path.{_≡_};
 ghost use lib.ListN.{length};
 ghost use lib.Seq.{sets};
 ghost use Rattle.rules.specs.Bus.{purposeNumber, bytesOf};
-ghost use Rattle.listing.specs.Begun.{begun};
+ghost use Rattle.listing.specs.Outline.{outline};
 
 // "1 opcode, 2 operand, 3 wasted, 4 pointer, 5 data, 6 stack, 7 vector"
 fn purpose_number(purpose: Purpose) -> u8
@@ -24,9 +24,9 @@ fn purpose_number(purpose: Purpose) -> u8
 }
 
 // An access's address, bank and value, and four zeros.
-fn begin(list: &mut [u8], k: usize, a: u16, bank: u8, v: u8)
+fn outline(list: &mut [u8], k: usize, a: u16, bank: u8, v: u8)
     requires { ⌜ (k < 7) × (56 ≤ length (now list)) ⌝ }
-    ensures { λ r. ⌜ now (list .exit) ≡ sets (now (list .entry)) (8 * k) (begun a bank v) ⌝ }
+    ensures { λ r. ⌜ now (list .exit) ≡ sets (now (list .entry)) (8 * k) (outline a bank v) ⌝ }
 {
     let at = 8 * k;
     list[at] = (a % 256) as u8;
@@ -46,7 +46,7 @@ pub fn note_read(purpose: Purpose, list: &mut [u8], k: usize, a: u16, bank: u8, 
     ensures { λ r. ⌜ now (list .exit) ≡ sets (now (list .entry)) (8 * k)
         (bytesOf (record { address = a; bank = bank; value = v; kind = 0; purpose = purpose })) ⌝ }
 {
-    begin(list, k, a, bank, v);
+    outline(list, k, a, bank, v);
     list[8 * k + 5] = purpose_number(purpose);
 }
 

@@ -8,7 +8,7 @@ use borrow.Author.Tests.{le-leb, lt-leb, lt-ltb, le-ltb}
 use lib.Dec.{leb, ltb, eqb, eqb·suc-zero}
 use lib.Bits.{bitAnd, bitOr, and-le-l, and-le-r, or-lt, or-add-and, or-mod}
 use Rattle.laws.proofs.Tests.{and-true}
-use Rattle.pages.specs.Ends.{fits}
+use Rattle.pages.specs.Ends.{endFits}
 use Rattle.pages.proofs.Counting.{and-false}
 
 pub and-swap : (p q : Bool) → (p && q) ≡ (q && p)
@@ -25,7 +25,7 @@ under a (yes h) = rw (lt-ltb a 2 (omega arith), le-leb a 1 h)
 under a (no h) = rw (le-ltb a 2 (omega arith), lt-leb a 1 (omega arith))
 
 pub ends : (a b c d : ℕ) → a < 256 →
-    fits (a + 256 * b + 65536 * c + 16777216 * d) ≡ (leb a 1 && leb b 7 && eqb c 0 && eqb d 0)
+    endFits (a + 256 * b + 65536 * c + 16777216 * d) ≡ (leb a 1 && leb b 7 && eqb c 0 && eqb d 0)
 ends a b (suc c) d h =
     rw (le-ltb (a + 256 * b + 65536 * suc c + 16777216 * d) 2048 (omega arith), eqb·suc-zero c, and-false (leb a 1 && leb b 7))
 ends a b zero (suc d) h =
@@ -54,6 +54,6 @@ four true false false s = refl
 four true true r s = refl
 
 -- all fit where their bits together do
-pub together : (m n : ℕ) → fits (bitOr m n) ≡ (fits m && fits n)
+pub together : (m n : ℕ) → endFits (bitOr m n) ≡ (endFits m && endFits n)
 together m n =
     rw (or-mod m n 8, below 11 m n, below 1 (m % 256) (n % 256)) (four (ltb m 2048) (ltb n 2048) (ltb (m % 256) 2) (ltb (n % 256) 2))

@@ -14,29 +14,29 @@ ghost use Rattle.rules.specs.Basics.{all, at};
 ghost use Rattle.rules.specs.Answers.{tested};
 ghost use Rattle.rules.specs.Pages.{isRecord, recordsIn, raised, counted, formTests, counting, fed, none, sum, countingOf};
 ghost use Rattle.laws.proofs.Counts.{Bytes};
-ghost use Rattle.pages.specs.Ends.{fits};
+ghost use Rattle.pages.specs.Ends.{endFits};
 ghost use Rattle.pages.specs.Room.{Counts};
 ghost use Rattle.pages.specs.Blocks.{refusedBy, further};
 
 // A record's last four bytes as one number, low byte first.
-fn joined(kind: u8, purpose: u8, sixth: u8, seventh: u8) -> u32
-    ensures { λ r. ⌜ fits r ≡ (leb kind 1 && leb purpose 7 && eqb sixth 0 && eqb seventh 0) ⌝ }
+fn end_number(kind: u8, purpose: u8, sixth: u8, seventh: u8) -> u32
+    ensures { λ r. ⌜ endFits r ≡ (leb kind 1 && leb purpose 7 && eqb sixth 0 && eqb seventh 0) ⌝ }
 {
     kind as u32 + 256 * purpose as u32 + 65536 * sixth as u32 + 16777216 * seventh as u32
 }
 
 fn end_of(list: &[u8], k: usize) -> u32
     requires { ⌜ 8 * k + 8 ≤ length (now list) ⌝ }
-    ensures { λ r. ⌜ fits r ≡ isRecord (now (list .entry)) k ⌝ }
+    ensures { λ r. ⌜ endFits r ≡ isRecord (now (list .entry)) k ⌝ }
 {
     let p = 8 * k;
-    joined(list[p + 4], list[p + 5], list[p + 6], list[p + 7])
+    end_number(list[p + 4], list[p + 5], list[p + 6], list[p + 7])
 }
 
 // "byte 4 above 1"; "byte 5 as 0 to 7, where 0 is a list from before this change, and bytes 6 and 7 as zero": no bit but the lowest of
 // byte 4 and the lowest three of byte 5.
-fn fits(end: u32) -> bool
-    ensures { λ r. ⌜ r ≡ fits end ⌝ }
+fn end_fits(end: u32) -> bool
+    ensures { λ r. ⌜ r ≡ endFits end ⌝ }
 {
     if end < 2048 {
         return end % 256 < 2;
@@ -55,7 +55,7 @@ fn are_records(list: &[u8]) -> bool
         bits = bits | end_of(list, k);
         k += 1;
     }
-    fits(bits)
+    end_fits(bits)
 }
 
 // "a total of all counts that would pass 64 bits": whether n more can be counted.

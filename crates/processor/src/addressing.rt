@@ -1,5 +1,5 @@
 // The accesses of each addressing mode, after the opcode and the byte behind it were listed. Each has its number in the step: a read's
-// fifth argument.
+// sixth argument.
 
 use rules::Mode;
 use rules::Purpose;

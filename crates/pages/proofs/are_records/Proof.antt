@@ -7,7 +7,7 @@ use borrow.Author.Needs.{needs}
 use denote.Ref.{now}
 use Rattle.rules.specs.Basics.{all}
 use Rattle.rules.specs.Pages.{isRecord, recordsIn}
-use Rattle.pages.specs.Ends.{fits}
+use Rattle.pages.specs.Ends.{endFits}
 use Rattle.pages.proofs.Ends.{and-swap, together}
 use Rattle.pages.proofs.are_records.Statement.{statement}
 use Rattle.pages.proofs.are_records.Tie as tie
@@ -15,7 +15,7 @@ use Rattle.pages.proofs.are_records.Tie as tie
 record Judged (list : List ℕ) (n bits k : ℕ) : Type 0 where
   whole : n ≡ recordsIn list
   within : k ≤ n
-  good : all k (isRecord list) ≡ fits bits
+  good : all k (isRecord list) ≡ endFits bits
 
 abbrev Inv-loop : tie.InvT-loop
 Inv-loop list n bits₀ k₀ bits k = Judged list n bits k
@@ -43,7 +43,7 @@ returns c =
     let at-loop = c .before .before .loop in
     let list = now (c .before .before .before .before .args .list) in
     let e : recordsIn list ≡ at-loop .k = omega arith in
-    c .fits2 .ensures ∙ (rw e (sym (at-loop .inv .good)))
+    c .end-fits .ensures ∙ (rw e (sym (at-loop .inv .good)))
 
 pub are-records-spec : {M : Type 1} → statement M
 are-records-spec =

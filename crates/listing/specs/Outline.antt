@@ -2,5 +2,5 @@
 use Prim.Native.Nat.{ℕ, _/_, _%_}
 use mathlib.Core.List.{List, [], _∷_}
 
-abbrev pub begun : ℕ → ℕ → ℕ → List ℕ
-begun a bank v = a % 256 ∷ a / 256 ∷ bank ∷ v ∷ 0 ∷ 0 ∷ 0 ∷ 0 ∷ []
+abbrev pub outline : ℕ → ℕ → ℕ → List ℕ
+outline a bank v = a % 256 ∷ a / 256 ∷ bank ∷ v ∷ 0 ∷ 0 ∷ 0 ∷ 0 ∷ []

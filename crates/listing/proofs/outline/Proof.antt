@@ -2,8 +2,8 @@ use native.Mathlib.Omega.{arith}
 use native.Mathlib.Numerals.{unary-clauses}
 use lib.ListN.{length-set}
 use borrow.Author.Needs.{needs}
-use Rattle.listing.proofs.begin.Statement.{statement}
-use Rattle.listing.proofs.begin.Tie as tie
+use Rattle.listing.proofs.outline.Statement.{statement}
+use Rattle.listing.proofs.outline.Tie as tie
 
 slice-write-list-2 : tie.Need-slice-write-list-2
 slice-write-list-2 c = simp length-set (omega arith)
@@ -29,8 +29,8 @@ slice-write-list-8 c = simp length-set (omega arith)
 returns : tie.Need-returns
 returns c = simp unary-clauses
 
-pub begin-spec : {M : Type 1} → statement M
-begin-spec =
+pub outline-spec : {M : Type 1} → statement M
+outline-spec =
     tie.close
     (tie.spec (λ c. search needs) (λ c. search needs) (λ c. search needs) (λ c. search needs) (λ c. search needs) slice-write-list-2
     (λ c. search needs) slice-write-list-3 (λ c. search needs) slice-write-list-4 (λ c. search needs) slice-write-list-5
