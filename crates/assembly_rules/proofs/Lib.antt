@@ -1,0 +1,2 @@
+-- Cases that were computed.
+pub mod Cases
