@@ -2,7 +2,7 @@
 -- and a bracketed term is again a sum, at most 16 deep; values are modulo 65,536."
 use Prim.Native.Nat.{ℕ, zero, suc, _+_, _-_, _%_}
 use Prim.Native.Char.{code}
-use mathlib.Core.Bool.{Bool, false}
+use mathlib.Core.Bool.{Bool, false, _||_}
 use mathlib.Core.List.{List}
 use lib.Dec.{eqb}
 use lib.ListN.{length}
@@ -26,24 +26,25 @@ abbrev pub closed : Read → Read
 closed none = none
 closed (value v four s) = let n = next s in if eqb (n .character) (code "]") then value v false (n .rest) else none
 
--- a term behind a plus or a minus
-abbrev pub added : ℕ → Read → Read
-added v none = none
-added v (value w four s) = value ((v + w) % 65536) false s
+-- "plus, minus"
+abbrev pub isSign : ℕ → Bool
+isSign c = eqb c (code "+") || eqb c (code "-")
 
-abbrev pub taken : ℕ → Read → Read
-taken v none = none
-taken v (value w four s) = value ((v + (65536 - w)) % 65536) false s
+-- "values are modulo 65,536"
+abbrev pub totalOf : ℕ → ℕ → ℕ → ℕ
+totalOf v sign w = (v + (if eqb sign (code "-") then 65536 - w else w)) % 65536
+
+-- a term behind a value and a sign
+abbrev pub joined : ℕ → ℕ → Read → Read
+joined v sign none = none
+joined v sign (value w four s) = value (totalOf v sign w) false s
 
 -- a sum goes on from its first term; as often as it has characters, which is enough
 abbrev pub goOn : (List ℕ → Read) → ℕ → Read → Read
 goOn term zero r = r
 goOn term (suc k) none = none
 goOn term (suc k) (value v four s) =
-    let n = next s in
-    if eqb (n .character) (code "+") then goOn term k (added v (term (n .rest)))
-    else if eqb (n .character) (code "-") then goOn term k (taken v (term (n .rest)))
-    else value v four s
+    let n = next s in if isSign (n .character) then goOn term k (joined v (n .character) (term (n .rest))) else value v four s
 
 abbrev pub sumBy : (List ℕ → Read) → List ℕ → Read
 sumBy term s = goOn term (length s) (term s)
