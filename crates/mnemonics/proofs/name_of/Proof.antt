@@ -1,0 +1,20 @@
+use borrow.Author.Needs.{needs}
+use Rattle.mnemonics.proofs.name_of.Statement.{statement}
+use Rattle.mnemonics.proofs.name_of.Tie as tie
+
+pub name-of-spec : {M : Type 1} → statement M
+name-of-spec =
+    tie.close
+    (tie.spec (λ c. search needs) (λ c κs. search needs) (λ c. search needs) (λ c κs. search needs) (λ c. search needs)
+    (λ c κs. search needs) (λ c. search needs) (λ c κs. search needs) (λ c. search needs) (λ c κs. search needs) (λ c. search needs)
+    (λ c κs. search needs) (λ c. search needs) (λ c κs. search needs) (λ c. search needs) (λ c. search needs) (λ c. search needs)
+    (λ c. search needs) (λ c. search needs) (λ c. search needs) (λ c. search needs)
+    (λ c. rw (c .before .before .i .given .1) (c .reading .ensures))
+    (λ c. rw (c .before .before .i2 .given .1) (c .storing .ensures))
+    (λ c. rw (c .before .before .i3 .given .1) (c .changing .ensures))
+    (λ c. rw (c .before .before .i4 .given .1) (c .changing2 .ensures))
+    (λ c. rw (c .before .before .i5 .given .1) (c .internal .ensures))
+    (λ c. rw (c .before .before .i6 .given .1) (c .stacking .ensures))
+    (λ c. rw (c .before .before .i7 .given .1) (c .condition .ensures)) (λ c. rw (c .before .i8 .given .1))
+    (λ c. rw (c .before .i9 .given .1)) (λ c. search needs) (λ c. search needs) (λ c. search needs) (λ c. search needs)
+    (λ c. search needs))
