@@ -1,5 +1,5 @@
 -- What a line means: the bytes that it makes, or what is wrong with it.
-use Prim.Native.Nat.{ℕ, suc, _+_, _-_, _/_, _%_}
+use Prim.Native.Nat.{ℕ, _+_, _-_, _/_, _%_}
 use Prim.Native.Char.{code}
 use mathlib.Core.Bool.{Bool, true, false, _&&_, _||_}
 use mathlib.Core.List.{List, [], _∷_}
@@ -23,12 +23,14 @@ abbrev pub content : List ℕ → List ℕ
 content [] = []
 content (c ∷ l) = if eqb c (code ";") then [] else c ∷ content l
 
--- "33 too deep": with n brackets open, somewhere more than 16 are
+-- how many brackets are open behind a character
+abbrev pub opened : ℕ → ℕ → ℕ
+opened n c = if eqb c (code "[") then n + 1 else if eqb c (code "]") then n - 1 else n
+
+-- "33 too deep": where n are open, and then somewhere more than 16
 abbrev pub tooDeep : ℕ → List ℕ → Bool
 tooDeep n [] = false
-tooDeep n (c ∷ l) =
-    if eqb c (code "[") then (if leb deepest n then true else tooDeep (suc n) l)
-    else if eqb c (code "]") then tooDeep (n - 1) l else tooDeep n l
+tooDeep n (c ∷ l) = if ltb deepest (opened n c) then true else tooDeep (opened n c) l
 
 -- an instruction that is its opcode alone
 abbrev pub aloneLine : ℕ → Shape → Line
@@ -36,7 +38,7 @@ aloneLine m s = if has m s then One (opcodeOf m s) else Wrong NoSuchMode
 
 -- "no such mode or a value too large for it"
 abbrev pub byteLine : ℕ → Shape → ℕ → Line
-byteLine m s v = if has m s && ltb v 256 then Two (opcodeOf m s) v else Wrong NoSuchMode
+byteLine m s v = if ltb v 256 && has m s then Two (opcodeOf m s) v else Wrong NoSuchMode
 
 abbrev pub wordLine : ℕ → Shape → ℕ → Line
 wordLine m s v = if has m s then Three (opcodeOf m s) (v % 256) (v / 256) else Wrong NoSuchMode
@@ -45,21 +47,25 @@ wordLine m s v = if has m s then Three (opcodeOf m s) (v % 256) (v / 256) else W
 -- form."
 abbrev pub addressLine : ℕ → Shape → Shape → ℕ → Bool → Line
 addressLine m zero absolute v true = wordLine m absolute v
-addressLine m zero absolute v false = if has m zero && ltb v 256 then Two (opcodeOf m zero) v else wordLine m absolute v
+addressLine m zero absolute v false = if ltb v 256 && has m zero then Two (opcodeOf m zero) v else wordLine m absolute v
 
 -- "Branch operands are target addresses": the offset from the next instruction's address, "branch too far" where it is no signed byte
 abbrev pub branchLine : ℕ → ℕ → ℕ → Line
-branchLine a m v =
+branchLine opcode a v =
     let offset = (v + (65536 - sum16 a 2)) % 65536 in
-    if ltb offset 128 || leb 65408 offset then Two (opcodeOf m shape.Relative) (offset % 256) else Wrong BranchTooFar
+    if ltb offset 128 || leb 65408 offset then Two opcode (offset % 256) else Wrong BranchTooFar
+
+-- a sum alone, at address a
+abbrev pub plainLine : ℕ → ℕ → ℕ → Bool → Line
+plainLine a m v four =
+    if has m shape.Relative then branchLine (opcodeOf m shape.Relative) a v else addressLine m shape.Zero shape.Absolute v four
 
 -- a mnemonic and what stands behind it, at address a
 abbrev pub coded : ℕ → ℕ → Operand → Line
 coded a m operand.Nothing = aloneLine m shape.Implied
 coded a m operand.Accumulator = aloneLine m shape.Accumulator
 coded a m (operand.Immediate v) = byteLine m shape.Immediate v
-coded a m (operand.Address v four) =
-    if has m shape.Relative then branchLine a m v else addressLine m shape.Zero shape.Absolute v four
+coded a m (operand.Address v four) = plainLine a m v four
 coded a m (operand.AddressX v four) = addressLine m shape.ZeroX shape.AbsoluteX v four
 coded a m (operand.AddressY v four) = addressLine m shape.ZeroY shape.AbsoluteY v four
 coded a m (operand.IndirectX v) = byteLine m shape.IndirectX v
@@ -67,12 +73,16 @@ coded a m (operand.IndirectY v) = byteLine m shape.IndirectY v
 coded a m (operand.Indirect v) = wordLine m shape.Indirect v
 coded a m operand.NotOne = Wrong NotALine
 
+-- a value behind BYTE
+abbrev pub byteValue : ℕ → Line
+byteValue v = if ltb v 256 then One v else Wrong NoSuchMode
+
 -- BYTE and "a sum like any operand"; "BYTE alone is 30"
 abbrev pub valued : Operand → Line
 valued operand.Nothing = Wrong NotALine
 valued operand.Accumulator = Wrong NotALine
 valued (operand.Immediate v) = Wrong NotALine
-valued (operand.Address v four) = if ltb v 256 then One v else Wrong NoSuchMode
+valued (operand.Address v four) = byteValue v
 valued (operand.AddressX v four) = Wrong NotALine
 valued (operand.AddressY v four) = Wrong NotALine
 valued (operand.IndirectX v) = Wrong NotALine

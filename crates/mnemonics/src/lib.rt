@@ -12,6 +12,7 @@ use rules::Storing;
 ghost use Prim.Native.Nat.{_<_};
 ghost use mathlib.Core.Path.{_≡_};
 ghost use Rattle.assembly_rules.specs.Mnemonics.{reading, storing, changing, condition, internal, stacking, nameOf, modeShape, shapeOf};
+ghost use Rattle.assembly_rules.specs.Mnemonics.{opcodeOf, isMnemonic};
 ghost use Rattle.mnemonics.specs.Rows.{rowOf, chosen, opcodeIn};
 
 fn reading(o: Reading) -> u32
@@ -168,7 +169,7 @@ pub fn shape_of(i: Instruction) -> Shape
 }
 
 // A mnemonic's row: from bit 8 on the set of its shapes, below that what all its opcodes are counted from. 0 where the name is no mnemonic.
-pub fn row_of(name: u32) -> u32
+fn row_of(name: u32) -> u32
     ensures { λ r. ⌜ r ≡ rowOf name ⌝ }
 {
     match name {
@@ -244,7 +245,7 @@ fn chosen(row: u32, weight: u32, offset: u32) -> u16
 }
 
 // The opcode that a row has in a shape; 256 where it has none. # and a,Y are elsewhere in ORA's group, whose opcodes are odd.
-pub fn opcode_in(row: u32, shape: Shape) -> u16
+fn opcode_in(row: u32, shape: Shape) -> u16
     ensures { λ r. ⌜ r ≡ opcodeIn row shape ⌝ }
 {
     let odd = row % 2;
@@ -263,4 +264,17 @@ pub fn opcode_in(row: u32, shape: Shape) -> u16
         Shape::AbsoluteY => chosen(row, 0x80000, 0x1C - 4 * odd),
         Shape::Indirect => chosen(row, 0x100000, 0x2C),
     }
+}
+
+// The opcode of this name and shape; 256 where there is none.
+pub fn opcode_of(name: u32, shape: Shape) -> u16
+    ensures { λ r. ⌜ r ≡ opcodeOf name shape ⌝ }
+{
+    opcode_in(row_of(name), shape)
+}
+
+pub fn is_mnemonic(name: u32) -> bool
+    ensures { λ r. ⌜ r ≡ isMnemonic name ⌝ }
+{
+    row_of(name) != 0
 }
