@@ -28,8 +28,7 @@ returns c =
     let at-loop = c .before .before .before .before in
     let start = at-loop .before .before in
     let l = at-loop .loop in
-    let h = c .before .before .before .loop-test .taken in
-    (
+    let h = c .before .before .before .loop-test .taken in (
       l .inv .same ∙ skip-other (now (start .args .s)) (l .p) h (sym (c .before .is-space .ensures) ∙ c .if1 .left),
       l .inv .within,
     )
