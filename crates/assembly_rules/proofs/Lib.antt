@@ -1,2 +1,3 @@
--- Cases that were computed.
+-- Cases that were computed, and laws of what is listed.
 pub mod Cases
+pub mod Listings
