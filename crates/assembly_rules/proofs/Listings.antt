@@ -1,24 +1,22 @@
 -- What is listed, line by line: how long lines are and how many bytes they are of, and that a text is its first line and the text of what
 -- follows.
-use Prim.Native.Nat.{ℕ, zero, suc, _+_, _-_, _≤_, _<_}
+use Prim.Native.Nat.{ℕ, zero, suc, _+_, _≤_, _<_}
 use Prim.Native.Char.{code}
 use native.Mathlib.Nat.{not-suc-le-zero}
 use native.Mathlib.Omega.{arith}
-use mathlib.Core.Path.{_≡_, refl, sym, ap, _∙_}
-use mathlib.Core.Bool.{Bool, true, false, _&&_}
+use mathlib.Core.Path.{_≡_, refl, ap, _∙_}
+use mathlib.Core.Bool.{_&&_}
 use mathlib.Core.List.{List, [], _∷_, _++_}
 use borrow.Author.Tests.{leb-true}
 use lib.Dec.{leb}
 use lib.ListN.{length, drop, length-append, length-drop}
-use Rattle.rules.specs.Basics.{if_then_else_, at, sum16}
+use Rattle.rules.specs.Basics.{at, sum16}
 use Rattle.rules.specs.Opcodes.{Entry, undefined, alone, byte, word, late, decode, sizeOf, isDefined, instructionOf}
-use Rattle.rules.specs.Text.{hex}
 use Rattle.laws.proofs.Tests.{and-right, if-case, if-both}
 use Rattle.assembly_rules.specs.declared.Shape.{Shape}
 use Rattle.assembly_rules.specs.declared.Shape.the-variants as shape
-use Rattle.assembly_rules.specs.Characters.{said}
-use Rattle.assembly_rules.specs.Mnemonics.{nameOf, shapeOf}
-use Rattle.assembly_rules.specs.Listing.{operandText, Listed, lettersOf, instructionLine, lineAt, listed, textOf}
+use Rattle.assembly_rules.specs.Mnemonics.{shapeOf}
+use Rattle.assembly_rules.specs.Listing.{operandText, Listed, lineAt, listed, textOf}
 
 -- how long an operand is goes by its shape alone
 pub operand-width : (a low high : ℕ) (s : Shape) → length (operandText a low high s) ≡ length (operandText 0 0 0 s)
@@ -67,19 +65,18 @@ line-most a bytes =
     let high = at bytes 2 in
     if-case (λ (l : Listed). length (l .text) ≤ 11) (isDefined e && leb (sizeOf e) (length bytes)) _ _
     (λ h.
-      let s = shapeOf (instructionOf e low high) in
-      omega (arith, operand-width a low high s, operand-most s))
+    let s = shapeOf (instructionOf e low high) in
+    omega (arith, operand-width a low high s, operand-most s))
     (λ h. omega arith)
 
 -- a line is of at least one byte, and of no more than there are
-pub line-size : (a b : ℕ) (bytes : List ℕ) →
-    (1 ≤ lineAt a (b ∷ bytes) .size) × (lineAt a (b ∷ bytes) .size ≤ suc (length bytes))
+pub line-size : (a : ℕ) (bytes : List ℕ) → 0 < length bytes → (1 ≤ lineAt a bytes .size) × (lineAt a bytes .size ≤ length bytes)
 unfolding lineAt
-line-size a b bytes =
-    let e = decode b in
-    if-case (λ (l : Listed). (1 ≤ l .size) × (l .size ≤ suc (length bytes))) (isDefined e && leb (sizeOf e) (suc (length bytes))) _ _
+line-size a bytes some =
+    let e = decode (at bytes 0) in
+    if-case (λ (l : Listed). (1 ≤ l .size) × (l .size ≤ length bytes)) (isDefined e && leb (sizeOf e) (length bytes)) _ _
     (λ h. (sizes e, leb-true _ _ (and-right (isDefined e) _ h)))
-    (λ h. (omega arith, omega arith))
+    (λ h. (omega arith, some))
 
 -- wherever it stands
 line-anywhere : (a b : ℕ) (bytes : List ℕ) →
@@ -97,7 +94,7 @@ line-anywhere a b bytes =
 -- what is left behind a line
 left-over : (a b : ℕ) (bytes : List ℕ) (k : ℕ) → length bytes ≤ k → length (drop (lineAt a (b ∷ bytes) .size) (b ∷ bytes)) ≤ k
 left-over a b bytes k h =
-    let l = line-size a b bytes in
+    let l = line-size a (b ∷ bytes) (omega arith) in
     rw (length-drop (lineAt a (b ∷ bytes) .size) (b ∷ bytes)) (omega (arith, l .0))
 
 -- "at most k lines, of which there are no more than bytes"
@@ -111,8 +108,9 @@ enough (suc k) zero a (b ∷ bytes) h g = absurd (not-suc-le-zero g)
 enough (suc k) (suc j) a [] h g = refl
 enough (suc k) (suc j) a (b ∷ bytes) h g =
     let l = lineAt a (b ∷ bytes) in
+    let rest = drop (l .size) (b ∷ bytes) in
     ap (λ (t : List ℕ). l .text ++ code "\n" ∷ t)
-    (enough k j (sum16 a (l .size)) (drop (l .size) (b ∷ bytes)) (left-over a b bytes k (omega arith)) (left-over a b bytes j (omega arith)))
+    (enough k j (sum16 a (l .size)) rest (left-over a b bytes k (omega arith)) (left-over a b bytes j (omega arith)))
 
 -- a text is its first line and the text of what follows
 pub text-first : (a : ℕ) (bytes : List ℕ) → 0 < length bytes →
