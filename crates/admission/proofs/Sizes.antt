@@ -4,7 +4,7 @@ use mathlib.Core.Path.{_≡_, refl}
 use mathlib.Core.List.{map}
 use Rattle.rules.specs.Opcodes.{Entry, decode, sizeOf, instructionOf}
 use Rattle.rules.specs.Table.{table}
-use Rattle.decode.proofs.Decodes.{everywhere}
+use Rattle.rules.proofs.Table.{everywhere}
 use Rattle.laws.specs.Sizes.{sizeIn}
 
 module _ (low high : ℕ) where

@@ -1,15 +1,10 @@
--- A list that another one is made of, and a list's last choice.
-use Prim.Native.Nat.{ℕ, zero, suc, _<_, _≤_}
+-- A list's last choice.
+use Prim.Native.Nat.{ℕ, zero, suc, _≤_}
 use native.Mathlib.Nat.{not-suc-le-zero, le-of-suc-le-suc}
 use native.Mathlib.Omega.{arith}
 use mathlib.Core.Path.{_≡_, refl}
-use mathlib.Core.List.{List, [], _∷_, map}
+use mathlib.Core.List.{List, [], _∷_}
 use lib.ListN.{length, getD}
-
-pub at-map : {A B : Type 0} (f : A → B) (l : List A) (n : ℕ) (x : B) (d : A) → n < length l → getD (map f l) n x ≡ f (getD l n d)
-at-map f [] n x d h = absurd (not-suc-le-zero h)
-at-map f (y ∷ l) zero x d h = refl
-at-map f (y ∷ l) (suc n) x d h = at-map f l n x d (le-of-suc-le-suc h)
 
 -- n is none of 0, 1, .., k - 1: what the last arm of a match on these numbers knows
 abbrev Left : ℕ → ℕ → Type 0

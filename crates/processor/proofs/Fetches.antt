@@ -23,7 +23,7 @@ use Rattle.rules.specs.Table.{table}
 use Rattle.rules.specs.Operations.{perform, onward, operate, instruction}
 use Rattle.rules.specs.Record.{recordOf}
 use Rattle.laws.proofs.Entries.{fetchedBy}
-use Rattle.decode.proofs.Decodes.{everywhere}
+use Rattle.rules.proofs.Table.{everywhere}
 use Rattle.laws.specs.Goes.{Goes, Does}
 use Rattle.laws.specs.States.{moved}
 use Rattle.laws.proofs.Goes.{ended, then-do, then-call}

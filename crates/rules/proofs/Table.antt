@@ -1,7 +1,8 @@
 -- "The 151 opcodes stand in a table of 256 entries; the other 105 are undefined."
 use Prim.Native.Nat.{ℕ, zero, suc, _+_, _<_}
+use native.Mathlib.Nat.{not-suc-le-zero, le-of-suc-le-suc}
 use native.Mathlib.Omega.{arith}
-use mathlib.Core.Path.{_≡_, refl, ap, _∙_}
+use mathlib.Core.Path.{_≡_, refl, sym, ap, _∙_}
 use mathlib.Core.List.{List, [], _∷_, map}
 use lib.ListN.{length, getD}
 use Rattle.rules.specs.Basics.{bit}
@@ -41,3 +42,17 @@ defined-are = refl
 
 pub table-at : (i : ℕ) → i < 256 → getD table i undefined ≡ decode i
 table-at i h = rw agrees (made-at decode undefined i h)
+
+pub at-map : {A B : Type 0} (f : A → B) (l : List A) (n : ℕ) (x : B) (d : A) → n < length l → getD (map f l) n x ≡ f (getD l n d)
+at-map f [] n x d h = absurd (not-suc-le-zero h)
+at-map f (y ∷ l) zero x d h = refl
+at-map f (y ∷ l) (suc n) x d h = at-map f l n x d (le-of-suc-le-suc h)
+
+-- a list made of the table's entries has at n what is made of opcode n
+pub at-opcode : {A : Type 0} (f : Entry → A) (x : A) (n : ℕ) → n < 256 → getD (map f table) n x ≡ f (decode n)
+unfolding table
+at-opcode f x n h = at-map f table n x undefined h ∙ ap f (table-at n h)
+
+-- so a claim on all entries is one on each opcode
+pub everywhere : {A : Type 0} (f g : Entry → A) → map f table ≡ map g table → (n : ℕ) → n < 256 → f (decode n) ≡ g (decode n)
+everywhere f g e n h = sym (at-opcode f (f undefined) n h) ∙ (rw e (at-opcode g (f undefined) n h))

@@ -27,7 +27,7 @@ use Rattle.assembly_rules.specs.Listing.{operandText, Listed, instructionLine, 
 use Rattle.assembly_rules.proofs.Listings.{operand-width, line-size, text-first, text-none, text-anywhere}
 use Rattle.characters.specs.Shown.{Puts}
 use Rattle.characters.proofs.Laws.{puts-append, sets-front}
-use Rattle.decode.proofs.Decodes.{everywhere}
+use Rattle.rules.proofs.Table.{everywhere}
 use Rattle.source.specs.Lines.{sizeBy, countBy, foundIn, wholeIn, textBy, Spells, Measures, Holds, Lists}
 
 -- The instruction at a place, by what was read there: it is whole where its size fits, and else none is.
