@@ -22,14 +22,14 @@ module _ (room n k : ℕ) (before : List ℕ) (goOn : List ℕ → Made)
   fitted-within bytes h = go (leb (length before + length bytes) room)
     where
       go : (b : Bool) → Within (length before + 3 + k) (if b then goOn (before ++ bytes) else wrong Fault.NoRoom n)
-      go true = rest bytes h
+      go true all e = rest bytes h all e
       go false all e = let z : _≡_ {A = ℕ} 0 1 = cc in absurd (omega arith)
 
   judged-within : (l : Line) → Within (length before + 3 + k) (judged room n before goOn l)
-  judged-within Nothing = fitted-within [] (omega arith)
-  judged-within (One a) = fitted-within (a ∷ []) (omega arith)
-  judged-within (Two a b) = fitted-within (a ∷ b ∷ []) (omega arith)
-  judged-within (Three a b c) = fitted-within (a ∷ b ∷ c ∷ []) (omega arith)
+  judged-within Nothing all e = fitted-within [] (omega arith) all e
+  judged-within (One a) all e = fitted-within (a ∷ []) (omega arith) all e
+  judged-within (Two a b) all e = fitted-within (a ∷ b ∷ []) (omega arith) all e
+  judged-within (Three a b c) all e = fitted-within (a ∷ b ∷ c ∷ []) (omega arith) all e
   judged-within (Wrong f) all e = let z : _≡_ {A = ℕ} 0 1 = cc in absurd (omega arith)
 
 module _ (start room : ℕ) where
