@@ -4,6 +4,8 @@ mod admission;
 #[cfg(not(yardstick_only))]
 mod admissions;
 mod arithmetic;
+mod assembler;
+mod assemblers;
 mod bench;
 mod bus;
 mod cases;
@@ -17,6 +19,8 @@ mod firmware;
 mod image;
 mod instructions;
 mod json;
+mod lister;
+mod mnemonics;
 mod opcodes;
 mod page_report;
 mod pages;
@@ -34,7 +38,9 @@ mod restart;
 mod restarts;
 mod run;
 mod runs;
+mod texts;
 
+use std::io::{Read, Write};
 use std::process::exit;
 use std::time::{SystemTime, UNIX_EPOCH};
 
@@ -53,6 +59,9 @@ const USAGE: &str = "usage:
   second image --start HEX --success HEX [--load HEX] [--most N] [--core CORE] FILE
   second json [--core CORE] FILE...
   second bench [--core CORE --line LINE --steps N]
+  second assemble START <TEXT >BYTES
+  second lister START <BYTES >TEXT
+  second assemblers --images N [--seed S] FOLDER START:FILE...
 
 CORE is archive, yardstick or per-part. Without it, compare, purposes, runs, promise, pages, arithmetic, image and json
 take the archive, or the yardstick where the program was built without one, and examples takes every core. Only the
@@ -61,7 +70,9 @@ and prints nothing.
 
 image plays a self-checking 6502 image until it stands still, which must be at --success. It is a file of 65,536 bytes,
 or one that goes to --load. json plays the cases of files in the published layout, an instruction each. page-report
-prints what the program page_report must print of these files, and list writes a list of random records.";
+prints what the program page_report must print of these files, and list writes a list of random records. assemble and
+lister do what the programs of these names must do. assemblers compares both with ca65 and 64tass, in FOLDER, on the
+images of these files and on random ones.";
 
 #[derive(Default)]
 struct Options {
@@ -88,7 +99,10 @@ fn main() {
     let seed = options.seed.unwrap_or_else(seed_from_time);
     let count = options.count.as_ref();
     let count = count.map(|(of, count)| (of.as_str(), *count));
-    let takes_files = matches!(command.as_str(), "image" | "json" | "page-report" | "list");
+    let takes_files = matches!(
+        command.as_str(),
+        "image" | "json" | "page-report" | "list" | "assemble" | "lister" | "assemblers"
+    );
     if options.files.is_empty() == takes_files {
         fail(USAGE);
     }
@@ -108,6 +122,22 @@ fn main() {
         ("page-report", None) => page_report::page_report(&options.files),
         ("list", Some(("--records", records))) => match &options.files[..] {
             [file] => page_report::write_list(file, records, seed),
+            _ => fail(USAGE),
+        },
+        ("assemble", None) => filter(&options.files, |text, start| {
+            // No line makes more than three bytes.
+            let mut bytes = vec![0; 3 * text.len()];
+            let word = assembler::assemble(text, start, &mut bytes);
+            (word, bytes)
+        }),
+        ("lister", None) => filter(&options.files, |bytes, start| {
+            // No line of a byte or more is longer than twelve characters.
+            let mut text = vec![0; 12 * bytes.len()];
+            let word = lister::list(bytes, start, &mut text);
+            (word, text)
+        }),
+        ("assemblers", Some(("--images", images))) => match &options.files[..] {
+            [folder, files @ ..] => assemblers::assemblers(images, seed, folder, files),
             _ => fail(USAGE),
         },
         ("arithmetic", None) => arithmetic::arithmetic(core),
@@ -139,7 +169,7 @@ fn read_options(arguments: &[String]) -> Options {
         }
         let value = arguments.next().unwrap_or_else(|| fail(USAGE));
         match name.as_str() {
-            "--steps" | "--runs" | "--maps" | "--lists" | "--records"
+            "--steps" | "--runs" | "--maps" | "--lists" | "--records" | "--images"
                 if options.count.is_none() =>
             {
                 options.count = Some((name.clone(), number(value)));
@@ -170,6 +200,28 @@ fn asked(options: &Options) -> image::Asked<'_> {
             most: options.most.unwrap_or(image::MOST_STEPS),
         },
         _ => fail(USAGE),
+    }
+}
+
+/// From standard input to standard output, from this start on; a refusal goes to standard error.
+fn filter(words: &[String], change: impl Fn(&[u8], u16) -> (u64, Vec<u8>)) -> bool {
+    let start = match words {
+        [start] => address(start),
+        _ => fail(USAGE),
+    };
+    let mut input = Vec::new();
+    if let Err(why) = std::io::stdin().read_to_end(&mut input) {
+        fail(&why.to_string());
+    }
+    let (word, output) = change(&input, start);
+    if word & 0xFF != 0 {
+        eprintln!("E {} {}", word & 0xFF, word >> 16);
+        return false;
+    }
+    let output = &output[..(word >> 16) as usize];
+    match std::io::stdout().write_all(output) {
+        Ok(()) => true,
+        Err(why) => fail(&why.to_string()),
     }
 }
 
