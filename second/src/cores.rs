@@ -61,7 +61,7 @@ entries! {
     per_part_step per_part_run,
 }
 
-// The yardsticks have no restart file and no admission.
+// The yardsticks have no restart file, no admission, no assembler and no lister.
 #[cfg(not(yardstick_only))]
 extern "C" {
     fn wankitare_restart(file: *const u8, file_len: usize) -> u64;
@@ -78,6 +78,20 @@ extern "C" {
         writes: *mut u64,
         accesses: *const u8,
         accesses_len: usize,
+    ) -> u64;
+    fn wankitare_assemble(
+        text: *const u8,
+        text_len: usize,
+        start: u16,
+        bytes: *mut u8,
+        bytes_len: usize,
+    ) -> u64;
+    fn wankitare_list(
+        bytes: *const u8,
+        bytes_len: usize,
+        start: u16,
+        text: *mut u8,
+        text_len: usize,
     ) -> u64;
 }
 
@@ -293,4 +307,18 @@ pub fn append_at(file_len: u64) -> u64 {
 pub fn admit(image: &[u8], c: u8, map: &[u8], empty: usize) -> u64 {
     // SAFETY: as above.
     unsafe { wankitare_admit(at(image, empty), image.len(), c, at(map, empty), map.len()) }
+}
+
+#[cfg(not(yardstick_only))]
+pub fn assemble(text: &[u8], start: u16, bytes: &mut [u8], empty: usize) -> u64 {
+    let (text_at, bytes_at) = (at(text, empty), at_mut(bytes, empty));
+    // SAFETY: as above.
+    unsafe { wankitare_assemble(text_at, text.len(), start, bytes_at, bytes.len()) }
+}
+
+#[cfg(not(yardstick_only))]
+pub fn list(bytes: &[u8], start: u16, text: &mut [u8], empty: usize) -> u64 {
+    let (bytes_at, text_at) = (at(bytes, empty), at_mut(text, empty));
+    // SAFETY: as above.
+    unsafe { wankitare_list(bytes_at, bytes.len(), start, text_at, text.len()) }
 }

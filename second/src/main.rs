@@ -6,6 +6,8 @@ mod admissions;
 mod arithmetic;
 mod assembler;
 mod assemblers;
+#[cfg(not(yardstick_only))]
+mod assemblings;
 mod bench;
 mod bus;
 mod cases;
@@ -61,12 +63,13 @@ const USAGE: &str = "usage:
   second bench [--core CORE --line LINE --steps N]
   second assemble START <TEXT >BYTES
   second lister START <BYTES >TEXT
+  second assembling --texts N [--seed S]
   second assemblers --images N [--seed S] FOLDER START:FILE...
 
 CORE is archive, yardstick or per-part. Without it, compare, purposes, runs, promise, pages, arithmetic, image and json
 take the archive, or the yardstick where the program was built without one, and examples takes every core. Only the
-archive has restart and admission, and per-part does not count pages. With a line of its table, bench plays that line
-and prints nothing.
+archive has restart, admission and assembling, and per-part does not count pages. With a line of its table, bench plays
+that line and prints nothing.
 
 image plays a self-checking 6502 image until it stands still, which must be at --success. It is a file of 65,536 bytes,
 or one that goes to --load. json plays the cases of files in the published layout, an instruction each. page-report
@@ -136,6 +139,8 @@ fn main() {
             let word = lister::list(bytes, start, &mut text);
             (word, text)
         }),
+        #[cfg(not(yardstick_only))]
+        ("assembling", Some(("--texts", texts))) => assemblings::assemblings(texts, seed),
         ("assemblers", Some(("--images", images))) => match &options.files[..] {
             [folder, files @ ..] => assemblers::assemblers(images, seed, folder, files),
             _ => fail(USAGE),
@@ -169,7 +174,7 @@ fn read_options(arguments: &[String]) -> Options {
         }
         let value = arguments.next().unwrap_or_else(|| fail(USAGE));
         match name.as_str() {
-            "--steps" | "--runs" | "--maps" | "--lists" | "--records" | "--images"
+            "--steps" | "--runs" | "--maps" | "--lists" | "--records" | "--images" | "--texts"
                 if options.count.is_none() =>
             {
                 options.count = Some((name.clone(), number(value)));

@@ -91,7 +91,7 @@ pub fn sum(random: &mut Random, style: Style, value: u16, may_be_four: bool) -> 
     let deepest = match (style, random.below(8)) {
         (Style::Common, _) => 0,
         (_, 0..=3) => random.below(3),
-        (_, 4..=6) => random.below(9),
+        (_, 4..=6) => random.between(0, 16),
         // 16 is the deepest that is allowed.
         _ => random.between(14, 16),
     };
