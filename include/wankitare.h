@@ -1,6 +1,6 @@
 /*
  * Wankitare: a 6502, 6508 or 6509, one step or a run of steps at a time, the file that it restarts from, the admission
- * of 6502 images, and the counting of accesses by page.
+ * of 6502 images, the counting of accesses by page, and an assembler and a lister for who patches an image.
  *
  * The board lends all memory: a state record of 16 bytes, the memory image and room for a list of bus accesses. The
  * library keeps nothing between calls and allocates nothing, so calls on different buffers may be made on different
@@ -16,9 +16,10 @@
  *
  * Nothing checks what C hands over: a pointer must lead to as many bytes as the length beside it says. What a call may
  * write must overlap nothing else that the same call was given: not record, image and access buffer, not script, *steps
- * and *listed, not the counts of reads and of writes. What calls only read (a script, a restart file, an admitted image
- * and its map, a list that is counted) may be shared and may lie in read-only memory. No buffer of bytes needs any
- * alignment, and an empty one may have any pointer; 64-bit numbers are aligned as C aligns them.
+ * and *listed, not the counts of reads and of writes, not a text and the bytes that are made of it. What calls only
+ * read (a script, a restart file, an admitted image and its map, a list that is counted, what is assembled or listed)
+ * may be shared and may lie in read-only memory. No buffer of bytes needs any alignment, and an empty one may have any
+ * pointer; 64-bit numbers are aligned as C aligns them.
  */
 #ifndef WANKITARE_H
 #define WANKITARE_H
@@ -34,7 +35,8 @@ extern "C" {
  * Refusals. A step tests 1 to 6 in this order and the first that applies is given; a refused step has changed no byte
  * of any buffer. A run tests 1, 2, 3 and 7 before anything, then 4 to 6 in each step. Of a restart file 8 is tested,
  * then 2. Admission tests 10, then 11 at each record, then 12, then 13 to 16 at each record. Counting by page tests 20,
- * then 21 at each record, then 22, before it counts anything.
+ * then 21 at each record, then 22, before it counts anything. The assembler tests 33, then 30, 31, 32 and 34 at each
+ * line, before it writes anything; the lister has 34 alone.
  */
 enum {
     /* record_len is not 16. */
@@ -103,7 +105,24 @@ enum {
     WANKITARE_LIST_RECORD = 21,
 
     /* All 512 counts together would pass 64 bits. Counts that were never set to zero may be why. */
-    WANKITARE_TOTAL = 22
+    WANKITARE_TOTAL = 22,
+
+    /* The line wankitare_line of the text is none of the language. Its name is no mnemonic, its operand is written as
+       none is, or it has a character that has no place there. */
+    WANKITARE_NOT_A_LINE = 30,
+
+    /* The mnemonic has no such mode, or the value is too large for it. Its operand is missing, or one too many; or what
+       is written as a byte is over 255. */
+    WANKITARE_NO_SUCH_MODE = 31,
+
+    /* The branch's target is too far. It must lie 126 bytes before the branch to 129 bytes behind it. */
+    WANKITARE_BRANCH_TOO_FAR = 32,
+
+    /* More than 16 square brackets of the line are open at once. */
+    WANKITARE_TOO_DEEP = 33,
+
+    /* The line's bytes, or the lister's text, find no room. Of the assembler, the bytes of the lines before it fit. */
+    WANKITARE_TEXT_ROOM = 34
 };
 
 /* Lengths in bytes. */
@@ -115,6 +134,12 @@ enum {
     WANKITARE_MOST_FILE_BYTES = 65536,
     WANKITARE_MAP_RECORD_BYTES = 8,
     WANKITARE_MOST_MAP_BYTES = 65536
+};
+
+/* No line that is assembled makes more bytes, and no line that is listed has more characters, its LF among them. */
+enum {
+    WANKITARE_LINE_BYTES = 3,
+    WANKITARE_LISTED_LINE = 12
 };
 
 /* How many pages an address can lie in, and so how many counts of reads, and of writes, there are. */
@@ -228,6 +253,7 @@ enum {
  *     0..7    the refusal's number, 0 where there is none
  *     8..15   step done: the number of its accesses; refusal 6: the opcode; record found: the tail's length
  *     16..31  refusal 6: PC; 11, 13 to 16: the map record's index; record found, place for the next one: that place
+ *     16..63  assembled or listed: how many bytes or characters; 30 to 34 of the assembler: the bad line, from 1
  *     others  0
  */
 uint64_t wankitare_step(uint8_t *record, size_t record_len, uint8_t *image, size_t image_len,
@@ -327,6 +353,45 @@ uint64_t wankitare_admit(const uint8_t *image, size_t image_len, uint8_t c, cons
  */
 uint64_t wankitare_pages(uint64_t *reads, uint64_t *writes, const uint8_t *accesses, size_t accesses_len);
 
+/*
+ * Assembles a text: an instruction to a line, written as in the data sheets. docs/PATCHING.md shows the way from an
+ * image through a text and back.
+ *
+ *     word = wankitare_assemble(text, text_len, 0xFF00, bytes, sizeof bytes);
+ *     if (wankitare_refusal(word) == 0)
+ *         memcpy(image + 0xFF00, bytes, wankitare_written(word));
+ *     else
+ *         printf("line %lu: refused by %u\n", (unsigned long)wankitare_line(word), wankitare_refusal(word));
+ *
+ * text      Lines, each ended by LF; the last may lack it. A CR directly before the LF is part of the line's end,
+ *           spaces and tabs may stand between any two words, and what follows a semicolon is a comment. A line has a
+ *           mnemonic and its operand, or BYTE and a value, or nothing; letters may be small or large.
+ *               LDA #$12    LDA $12      LDA $12,X    LDX $12,Y    LDA ($12,X)    LDA ($12),Y    ASL A    NOP
+ *               JMP ($1234) LDA $1234    LDA $1234,X  LDA $1234,Y  BNE $80FE      BYTE $02
+ *           In place of each number may stand a sum: numbers of one to four hexadecimal digits, + and -, and square
+ *           brackets, at most 16 deep, modulo 65,536. A value under 256 takes the form of page zero where the operation
+ *           has one; four digits alone take the absolute form. A branch's operand is its target.
+ * start     The address of the first byte. Addresses go on from FFFF at 0000.
+ * bytes     Gets what the lines make, WANKITARE_LINE_BYTES for each at most. The bytes behind them stay as they are.
+ *
+ * Answers how many bytes were written (wankitare_written); or the refusal of the first bad line, at it 33 first and
+ * then the lowest number, with that line (wankitare_line), and then no byte was written.
+ */
+uint64_t wankitare_assemble(const uint8_t *text, size_t text_len, uint16_t start, uint8_t *bytes, size_t bytes_len);
+
+/*
+ * Lists bytes as a text that wankitare_assemble makes the same bytes of, with the same start.
+ *
+ * bytes     What is listed, instruction by instruction. A byte that starts no whole one, be it undefined or cut by the
+ *           end, becomes a line of BYTE.
+ * start     The address of the first byte, for the targets of branches.
+ * text      Gets the lines, in large letters, each with its LF: WANKITARE_LISTED_LINE for each byte is always enough.
+ *           The characters behind them stay as they are.
+ *
+ * Answers how many characters were written (wankitare_written); or 34 where text_len is less, and then none was.
+ */
+uint64_t wankitare_list(const uint8_t *bytes, size_t bytes_len, uint16_t start, uint8_t *text, size_t text_len);
+
 /* The refusal's number, or 0 where there was none. */
 static inline unsigned wankitare_refusal(uint64_t word)
 {
@@ -367,6 +432,18 @@ static inline unsigned wankitare_tail(uint64_t word)
 static inline uint32_t wankitare_place(uint64_t word)
 {
     return (uint32_t)(word >> 16 & 0xFFFFFFFF);
+}
+
+/* Assembled or listed: how many bytes or characters were written. */
+static inline uint64_t wankitare_written(uint64_t word)
+{
+    return word >> 16;
+}
+
+/* WANKITARE_NOT_A_LINE to WANKITARE_TEXT_ROOM, of the assembler: the line of the text, from 1. */
+static inline uint64_t wankitare_line(uint64_t word)
+{
+    return word >> 16;
 }
 
 /* Two bytes, low and high, as a number: a record's PC, an access's address, a map record's instruction. */

@@ -1,6 +1,6 @@
 /* Runs examples.txt, given as standard input, as steps and as runs of one step, then some runs, restart files, appends,
-   admissions and counts by page, on the archive that this is linked with, through the board's header. It shows that an
-   x86-64 archive links and answers wherever x86-64 programs run, and needs no headers of a C library. */
+   admissions, counts by page and texts, on the archive that this is linked with, through the board's header. It shows
+   that an x86-64 archive links and answers wherever x86-64 programs run, and needs no headers of a C library. */
 
 #include "wankitare.h"
 
@@ -292,6 +292,73 @@ static void check_pages(void)
     check("pages, no room", wankitare_pages(reads, writes, lists[0], WANKITARE_ACCESS_BYTES) == WANKITARE_TOTAL);
 }
 
+/* Whether these bytes were written, and none behind them. */
+static int has_only(const uint8_t *room, size_t length, const void *right, size_t right_length)
+{
+    if (memcmp(room, right, right_length) != 0)
+        return 0;
+    for (size_t i = right_length; i < length; i++)
+        if (room[i] != UNTOUCHED)
+            return 0;
+    return 1;
+}
+
+/* Each refusal, and that nothing was written; then a text with most of what a line may be. */
+static void check_assemble(void)
+{
+#define LINES(text, number, line) {text, sizeof text - 1, (uint64_t)(line) << 16 | (number)}
+    static const struct { const char *text; size_t length; uint64_t word; } bad[] = {
+        LINES("start ;\n", WANKITARE_NOT_A_LINE, 1),
+        LINES("NOP\nLDA $12345\n", WANKITARE_NOT_A_LINE, 2),
+        LINES("; one\n\nLDA", WANKITARE_NO_SUCH_MODE, 3),
+        LINES("LDA #$100", WANKITARE_NO_SUCH_MODE, 1),
+        LINES("BNE $8082", WANKITARE_BRANCH_TOO_FAR, 1),
+        LINES("LDA [[[[[[[[[[[[[[[[[$1]]]]]]]]]]]]]]]]]", WANKITARE_TOO_DEEP, 1),
+        LINES("NOP\nJSR $1\nJSR $1\nJSR $1\nJSR $1\nJSR $1\nNOP\n", WANKITARE_TEXT_ROOM, 7),
+    };
+    static const char good[] = "\tlda #$01+[$12-$11] ; two\r\n\nSTA $0012\nsta$12\nBNE $8081\nASL A\nJMP ($1234)\n"
+                               "BYTE $02";
+    static const uint8_t made[] = {0xA9, 0x02, 0x8D, 0x12, 0x00, 0x85, 0x12, 0xD0, 0x78, 0x0A,
+                                   0x6C, 0x34, 0x12, 0x02};
+    uint8_t room[16];
+
+    memset(room, UNTOUCHED, sizeof room);
+    for (size_t i = 0; i < sizeof bad / sizeof *bad; i++) {
+        word = wankitare_assemble((const uint8_t *)bad[i].text, bad[i].length, 0x8000, room, sizeof room);
+        check(bad[i].text, word == bad[i].word && wankitare_line(word) == bad[i].word >> 16 &&
+                               has_only(room, sizeof room, room, 0));
+    }
+    word = wankitare_assemble((const uint8_t *)good, sizeof good - 1, 0x8000, room, sizeof made - 1);
+    check("assemble, one byte too few", word == (8 << 16 | WANKITARE_TEXT_ROOM) &&
+                                            has_only(room, sizeof room, room, 0));
+    word = wankitare_assemble((const uint8_t *)good, sizeof good - 1, 0x8000, room, sizeof room);
+    check("assemble", wankitare_refusal(word) == 0 && wankitare_written(word) == sizeof made &&
+                          has_only(room, sizeof room, made, sizeof made));
+    check("assemble, no text", wankitare_assemble(NULL, 0, 0x8000, NULL, 0) == 0);
+}
+
+/* An instruction of most modes, and one that is cut. */
+static void check_list(void)
+{
+    static const uint8_t program[] = {0xA9, 0x02, 0x8D, 0x12, 0x00, 0xB1, 0x12, 0xD0, 0xFE, 0x0A,
+                                      0x6C, 0x34, 0x12, 0x02, 0xEA, 0x4C, 0x34};
+    static const char right[] = "LDA #$02\nSTA $0012\nLDA ($12),Y\nBNE $0001\nASL A\nJMP ($1234)\nBYTE $02\nNOP\n"
+                                "BYTE $4C\nBYTE $34\n";
+    const size_t length = sizeof right - 1;
+    uint8_t text[WANKITARE_LISTED_LINE * sizeof program], again[sizeof program];
+
+    memset(text, UNTOUCHED, sizeof text);
+    word = wankitare_list(program, sizeof program, 0xFFFA, text, length - 1);
+    check("list, one character too few", word == WANKITARE_TEXT_ROOM && has_only(text, sizeof text, text, 0));
+    word = wankitare_list(program, sizeof program, 0xFFFA, text, sizeof text);
+    check("list", wankitare_refusal(word) == 0 && wankitare_written(word) == length &&
+                      has_only(text, sizeof text, right, length));
+    word = wankitare_assemble(text, length, 0xFFFA, again, sizeof again);
+    check("list and assemble", wankitare_written(word) == sizeof again &&
+                                   memcmp(again, program, sizeof again) == 0);
+    check("list, no bytes", wankitare_list(NULL, 0, 0, NULL, 0) == 0);
+}
+
 int main(void)
 {
     while (read_line()) {
@@ -330,6 +397,8 @@ int main(void)
     check_append();
     check_admit();
     check_pages();
+    check_assemble();
+    check_list();
     printf("%u examples and %u cases through the header: %u failed\n", run, checked - run, failed);
     return run == 0 || failed != 0;
 }
