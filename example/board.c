@@ -1,8 +1,9 @@
 /* The example's blade. A 6502 runs firmware.s, which switches eight outlets on, one after another. Twice the power
    fails while the board writes, and the blade goes on from the last whole record.
-     board FOLDER SEED
-   FOLDER has the firmware and its map, and gets the board's files. From SEED is drawn where the power fails. The exit
-   status is 0 if all came as expected.
+     board FOLDER SEED [LATER]
+   FOLDER has the firmware and its map, and gets the board's files. From SEED is drawn where the power fails. LATER is
+   by how many cycles a patched firmware switches the first outlet on later than firmware.s, and with it all that
+   follows. The exit status is 0 if all came as expected.
 
    Each call has a function of its own: wankitare_admit is in admit, wankitare_run in rehearse, wankitare_step in step,
    wankitare_pages in count_list, wankitare_append_at in save, wankitare_restart in restart. */
@@ -29,12 +30,13 @@ enum { RECORD = WANKITARE_RECORD_BYTES, ACCESS = WANKITARE_ACCESS_BYTES, MAP_REC
 
 /* What happens to the blade: the load of each outlet that is on; when which outlet is to be shed, first in the midst of
    the switching of another, then of a decimal sum; power dips. */
-enum { COUNT = 8, REQUESTS = 2, DIPS = 2, END = 50000 };
+enum { COUNT = 8, REQUESTS = 2, DIPS = 2 };
 static const unsigned amperes[COUNT] = {12, 9, 31, 7, 28, 16, 45, 22};
-static const struct { uint32_t cycle; unsigned outlet; } requests[REQUESTS] = {{25010, 2}, {45100, 4}};
+static struct { uint32_t cycle; unsigned outlet; } requests[REQUESTS] = {{25010, 2}, {45100, 4}};
+static uint32_t end = 50000;
 
 /* What must come of it: an outlet every 5,000 cycles, and 40 more where an interrupt came between. */
-static const struct event { uint32_t cycle; uint8_t outlets; unsigned load; } events[] = {
+static struct event { uint32_t cycle; uint8_t outlets; unsigned load; } events[] = {
     {0, 0x00, 0},
     {5018, 0x01, 12}, {10018, 0x03, 21}, {15018, 0x07, 52}, {20018, 0x0F, 59}, {25018, 0x1F, 87},
     {25044, 0x1B, 56},
@@ -259,6 +261,16 @@ static uint32_t cycles(void)
     return wankitare_cycles(blade.record);
 }
 
+/* A patched firmware has its first outlet come on later. So does all that happens then: it meets the same moments. */
+static void postpone(uint32_t later)
+{
+    for (unsigned i = 1; i < sizeof events / sizeof *events; i++)
+        events[i].cycle += later;
+    for (unsigned i = 0; i < REQUESTS; i++)
+        requests[i].cycle += later;
+    end += later;
+}
+
 /* The last event that must have been by this cycle. */
 static const struct event *expected(uint32_t cycle)
 {
@@ -400,7 +412,7 @@ static int work(void)
 {
     int powered = restart();
 
-    while (powered && cycles() < END)
+    while (powered && cycles() < end)
         powered = step(lines());
     return powered;
 }
@@ -411,28 +423,31 @@ static int work(void)
 static void admit(void)
 {
     enum { RTI = 0x40, RTS = 0x60 };
-    unsigned last = (unsigned)(map_length / MAP_RECORD - 1);
-    uint16_t end = wankitare_pair(map + last * MAP_RECORD + WANKITARE_AT_INSTRUCTION);
+    unsigned records = (unsigned)(map_length / MAP_RECORD), last = records - 1;
+    uint16_t at;
     uint64_t word;
 
-    expect(blade.image[end] == RTI, "the handler's last instruction is the map's");
-    blade.image[end] = RTS;
+    while (last > 0 && map[last * MAP_RECORD + WANKITARE_AT_KIND] != WANKITARE_HANDLER)
+        last--; /* what a patch has added behind the handler */
+    at = wankitare_pair(map + last * MAP_RECORD + WANKITARE_AT_INSTRUCTION);
+    expect(blade.image[at] == RTI, "the handler's last instruction ends it");
+    blade.image[at] = RTS;
     word = wankitare_admit(blade.image, sizeof blade.image, PAGES, map, map_length);
-    tell("patched, RTS over RTI at %04X: refused by %u at record %u of the map:\n    %s", end, wankitare_refusal(word),
+    tell("patched, RTS over RTI at %04X: refused by %u at record %u of the map:\n    %s", at, wankitare_refusal(word),
          wankitare_index(word), sentence(word));
     expect(wankitare_refusal(word) == WANKITARE_KIND_OR_HEIGHT && wankitare_index(word) == last, "the patch is found");
 
-    blade.image[end] = RTI;
+    blade.image[at] = RTI;
     word = wankitare_admit(blade.image, sizeof blade.image, PAGES, map, map_length);
     stop_if_refused(word, "the firmware");
-    tell("as it was: admitted, %u records, protected pages: %d", last + 1, PAGES);
+    tell("as it was: admitted, %u records, protected pages: %d", records, PAGES);
 }
 
 /* A run of many steps, the first under RES and the others quiet, shows when the first outlet will come on. It moves no
    relay: those hang on the lists of steps. */
 static void rehearse(void)
 {
-    enum { STEPS = 2000 };
+    enum { STEPS = 4000 };
     static const uint8_t script[2 * STEPS] = {WANKITARE_RES};
     static uint8_t accesses[STEPS * WANKITARE_STEP_ROOM];
     uint64_t steps, listed, cycle = 0;
@@ -481,7 +496,7 @@ static void work_through(int dips, uint32_t seed)
     }
     power = SIZE_MAX;
     expect(work(), "the power stays");
-    expect(relays == expected(END)->outlets && sum() == expected(END)->load, "in the end these outlets are on");
+    expect(relays == expected(end)->outlets && sum() == expected(end)->load, "in the end these outlets are on");
     expect(blade.image[STAGE] == COUNT && blade.image[SERVED] == REQUESTS, "the firmware has counted right");
     count_list();
     expect(total(reads, WANKITARE_PAGES) + total(writes, WANKITARE_PAGES) == made,
@@ -495,11 +510,13 @@ int main(int count, char **words)
     static struct blade undisturbed;
     uint32_t seed;
 
-    if (count != 3) {
-        fprintf(stderr, "usage: board FOLDER SEED\n");
+    if (count != 3 && count != 4) {
+        fprintf(stderr, "usage: board FOLDER SEED [LATER]\n");
         return 2;
     }
     seed = (uint32_t)strtoul(words[2], NULL, 10);
+    if (count == 4)
+        postpone((uint32_t)strtoul(words[3], NULL, 10));
     must(chdir(words[1]) == 0, words[1]);
     must(read_file(open("firmware", O_RDONLY), rom, sizeof rom, "firmware") == sizeof rom, "firmware");
     map_length = read_file(open("firmware.map", O_RDONLY), map, sizeof map, "firmware.map");
