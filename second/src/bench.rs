@@ -2,6 +2,8 @@
 //! record of an admitted map; and per record that is counted by page.
 
 mod counting;
+#[cfg(not(yardstick_only))]
+pub mod texts;
 
 use crate::bus::{ACCESS, BANK, MOST_ACCESSES};
 use crate::core::step;

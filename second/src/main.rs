@@ -61,6 +61,7 @@ const USAGE: &str = "usage:
   second image --start HEX --success HEX [--load HEX] [--most N] [--core CORE] FILE
   second json [--core CORE] FILE...
   second bench [--core CORE --line LINE --steps N]
+  second bench-texts FOLDER
   second assemble START <TEXT >BYTES
   second lister START <BYTES >TEXT
   second assembling --texts N [--seed S]
@@ -69,7 +70,7 @@ const USAGE: &str = "usage:
 CORE is archive, yardstick or per-part. Without it, compare, purposes, runs, promise, pages, arithmetic, image and json
 take the archive, or the yardstick where the program was built without one, and examples takes every core. Only the
 archive has restart, admission and assembling, and per-part does not count pages. With a line of its table, bench plays
-that line and prints nothing.
+that line and prints nothing; bench-texts times the assembler and the lister, and ca65 with files in FOLDER.
 
 image plays a self-checking 6502 image until it stands still, which must be at --success. It is a file of 65,536 bytes,
 or one that goes to --load. json plays the cases of files in the published layout, an instruction each. page-report
@@ -104,7 +105,14 @@ fn main() {
     let count = count.map(|(of, count)| (of.as_str(), *count));
     let takes_files = matches!(
         command.as_str(),
-        "image" | "json" | "page-report" | "list" | "assemble" | "lister" | "assemblers"
+        "image"
+            | "json"
+            | "page-report"
+            | "list"
+            | "assemble"
+            | "lister"
+            | "assemblers"
+            | "bench-texts"
     );
     if options.files.is_empty() == takes_files {
         fail(USAGE);
@@ -125,6 +133,11 @@ fn main() {
         ("page-report", None) => page_report::page_report(&options.files),
         ("list", Some(("--records", records))) => match &options.files[..] {
             [file] => page_report::write_list(file, records, seed),
+            _ => fail(USAGE),
+        },
+        #[cfg(not(yardstick_only))]
+        ("bench-texts", None) => match &options.files[..] {
+            [folder] => bench::texts::texts(folder),
             _ => fail(USAGE),
         },
         ("assemble", None) => filter(&options.files, |text, start| {
