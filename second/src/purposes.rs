@@ -238,7 +238,7 @@ impl Known {
         let number = purpose as u8;
         match self.tried {
             _ if self.is_write => Ok(()),
-            0..LEAST_TRIED => Err(format!("tried {} times", self.tried)),
+            tried if tried < LEAST_TRIED => Err(format!("tried {} times", self.tried)),
             _ if self.is_used == (purpose == Wasted || is_excepted) => match self.is_used {
                 true => Err(format!("used, and its purpose is {}", number)),
                 false => Err(format!("not used, and its purpose is {}", number)),
