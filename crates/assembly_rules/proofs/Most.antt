@@ -7,6 +7,7 @@ use mathlib.Core.List.{List, [], _∷_, _++_}
 use lib.Dec.{leb}
 use lib.ListN.{length, length-append}
 use Rattle.rules.specs.Basics.{if_then_else_, sum16}
+use Rattle.assembly_rules.proofs.Cases.{texts, refusals, listings}
 use Rattle.assembly_rules.specs.declared.Fault.{Fault}
 use Rattle.assembly_rules.specs.declared.Line.{Line}
 use Rattle.assembly_rules.specs.declared.Line.the-variants.{Nothing, One, Two, Three, Wrong}
@@ -43,4 +44,4 @@ module _ (start room : ℕ) where
       omega (arith, more)
 
   pub three-a-line : (text bytes : List ℕ) → assembled start room text ≡ made bytes → length bytes ≤ 3 * length (linesOf text)
-  three-a-line text bytes e = omega (arith, lines-within (linesOf text) 1 [] bytes e)
+  three-a-line text bytes e = omega (arith, lines-within (linesOf text) _ [] bytes e)
