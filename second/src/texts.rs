@@ -98,6 +98,12 @@ pub fn sum(random: &mut Random, style: Style, value: u16, may_be_four: bool) -> 
     terms(random, style, value, deepest)
 }
 
+/// The words of a sum with this value, in which so many brackets stand open at once, and never more.
+#[cfg(not(yardstick_only))]
+pub fn deep_sum(random: &mut Random, value: u16, depth: usize) -> Vec<String> {
+    terms(random, Style::Free, value, depth)
+}
+
 /// At least two terms, or one in brackets.
 fn terms(random: &mut Random, style: Style, value: u16, deepest: usize) -> Vec<String> {
     let before = match deepest {

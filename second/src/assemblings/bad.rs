@@ -3,7 +3,7 @@
 use crate::assembler::{BRANCH_TOO_FAR, DEEPEST, NOT_A_LINE, NO_SUCH_MODE, TOO_DEEP};
 use crate::mnemonics::{row, Form, Row, ROWS};
 use crate::random::Random;
-use crate::texts::{any_case, spaced, sum, Style};
+use crate::texts::{any_case, deep_sum, spaced, sum, Style};
 
 /// What a kind of line is answered: 0 where it is taken.
 pub struct Kind {
@@ -175,6 +175,12 @@ pub const KINDS: &[Kind] = &[
     kind!(TOO_DEEP, "17 deep", |random, _| {
         let (before, behind) = brackets(DEEPEST + 1);
         line(random, &["LDA ", &before, "$12", &behind])
+    }),
+    kind!(TOO_DEEP, "a random sum, 17 deep", |random, _| {
+        with_depth(random, DEEPEST + 1)
+    }),
+    kind!(TAKEN, "a random sum, 16 deep", |random, _| {
+        with_depth(random, DEEPEST)
     }),
     kind!(TOO_DEEP, "deeper", |random, _| {
         let (before, behind) = brackets(random.between(DEEPEST + 2, 300));
@@ -369,6 +375,13 @@ fn with_sum(random: &mut Random, name: &str, before: &str, value: u16, behind: &
     words.extend(sum(random, Style::Free, value, false));
     let behind = any_case(random, behind);
     words.extend(behind.chars().map(String::from));
+    spaced(random, Style::Free, &words)
+}
+
+fn with_depth(random: &mut Random, depth: usize) -> Vec<u8> {
+    let mut words = vec![any_case(random, "LDA"), "#".to_string()];
+    let value = u16::from(random.byte());
+    words.extend(deep_sum(random, value, depth));
     spaced(random, Style::Free, &words)
 }
 

@@ -4,6 +4,7 @@ use super::bad::KINDS;
 use crate::assembler::NOT_A_LINE;
 use crate::lister::listing;
 use crate::mnemonics::{named, ROWS};
+use crate::program::{PROGRAM, START};
 use crate::random::Random;
 use crate::texts::{any_case, byte, instruction, spaced, Style};
 
@@ -22,6 +23,7 @@ pub enum Source {
     OneBad(usize),
     SeveralBad,
     Damaged,
+    RealDamaged,
     Listed,
     ListedDamaged,
     Words,
@@ -47,7 +49,7 @@ pub fn text(random: &mut Random) -> Text {
         1 => random.between(20, 60),
         _ => random.between(1, 12),
     };
-    match random.below(12) {
+    match random.below(13) {
         0 if random.one_in(8) => last_cr(random, start, count),
         0..=2 => right(random, start, count),
         3..=6 => {
@@ -75,6 +77,13 @@ pub fn text(random: &mut Random) -> Text {
             }
         }
         10 => words(random, start, count),
+        11 => {
+            let from = random.below(PROGRAM.len());
+            let end = PROGRAM.len().min(from + random.between(1, 60));
+            let start = START + from as u16;
+            let text = listing(&PROGRAM[from..end], start);
+            damaged(random, start, text, Source::RealDamaged)
+        }
         _ => {
             let length = random.below(60);
             let any = random.one_in(2);

@@ -7,12 +7,13 @@ use crate::mnemonics::{named, Form};
 use crate::report::Report;
 
 const NUMBERS: [u64; 6] = [0, 30, 31, 32, 33, 34];
-const SOURCES: [&str; 9] = [
+const SOURCES: [&str; 10] = [
     "right lines",
     "CR alone at the end",
     "one line of a kind",
     "several bad lines",
     "damaged lines",
+    "damaged real text",
     "listed",
     "listed and damaged",
     "mere words",
@@ -93,10 +94,11 @@ impl Seen {
             }
             Source::SeveralBad => 3,
             Source::Damaged => 4,
-            Source::Listed => 5,
-            Source::ListedDamaged => 6,
-            Source::Words => 7,
-            Source::Bytes => 8,
+            Source::RealDamaged => 5,
+            Source::Listed => 6,
+            Source::ListedDamaged => 7,
+            Source::Words => 8,
+            Source::Bytes => 9,
         };
         self.sources[source] += 1;
         let deepest = deepest(&text.text);
