@@ -97,11 +97,13 @@ abbrev shown : Bool → List ℕ → List ℕ → List ℕ
 shown writing before buffer = if writing then front before buffer else buffer
 
 shown-more : (writing : Bool) (before bytes buffer : List ℕ) (count : ℕ) → length before ≡ count → count + length bytes ≤ length buffer →
-    (if writing then sets (shown writing before buffer) count bytes else shown writing before buffer) ≡ shown writing (before ++ bytes) buffer
+    (if writing then sets (shown writing before buffer) count bytes else shown writing before buffer) ≡
+    shown writing (before ++ bytes) buffer
 shown-more true before bytes buffer count e h = front-more before bytes buffer count e h
 shown-more false before bytes buffer count e h = refl
 
-shown-size : (writing : Bool) (before buffer : List ℕ) → length before ≤ length buffer → length (shown writing before buffer) ≡ length buffer
+shown-size : (writing : Bool) (before buffer : List ℕ) → length before ≤ length buffer →
+    length (shown writing before buffer) ≡ length buffer
 shown-size true before buffer h = front-size before buffer h
 shown-size false before buffer h = refl
 
@@ -118,7 +120,15 @@ pub record Passing (text : List ℕ) (start : ℕ) (buffer : List ℕ) (writing 
 module _ (text : List ℕ) (start : ℕ) (buffer : List ℕ) (writing : Bool) where
   pub pass-first : Passing text start buffer writing buffer 0 1 0
   pass-first =
-      record { before = []; size = refl; fits = omega arith; within = omega arith; few = omega arith; same = refl; kept = start-shown writing }
+      record {
+        before = [];
+        size = refl;
+        fits = omega arith;
+        within = omega arith;
+        few = omega arith;
+        same = refl;
+        kept = start-shown writing;
+      }
     where
       start-shown : (w : Bool) → buffer ≡ shown w [] buffer
       start-shown true = refl
@@ -142,11 +152,14 @@ module _ (text : List ℕ) (start : ℕ) (buffer : List ℕ) (writing : Bool) wh
               p .kept ∙ (rw (w, same));
         }
 
-    module _ (b : Bounds) (c : Cuts text at b) (l : Line) (room : ℕ) (here : l ≡ lineOf (sum16 start count) (take (b .end - at) (drop at text)))
-        (long : room ≡ length buffer) where
+    module _ (b : Bounds) (c : Cuts text at b) (l : Line) (room : ℕ)
+        (here : l ≡ lineOf (sum16 start count) (take (b .end - at) (drop at text))) (long : room ≡ length buffer) where
+      -- the lines behind the next
+      abbrev later : List ℕ → Made
+      later all = lines start (length buffer) (suc n) all (linesOf (drop (b .next) text))
+
       -- the next line, as it is judged
-      next : assembled start (length buffer) text ≡
-          judged (length buffer) n (p .before) (λ all. lines start (length buffer) (suc n) all (linesOf (drop (b .next) text))) l
+      next : assembled start (length buffer) text ≡ judged (length buffer) n (p .before) later l
       unfolding lines
       next = p .same ∙ (rw (c .same) (rw (p .size, ← here)))
 
@@ -161,8 +174,7 @@ module _ (text : List ℕ) (start : ℕ) (buffer : List ℕ) (writing : Bool) wh
           }
 
       module _ (total : ℕ) (h : stepTo room count l ≡ Go total) where
-        goes : Goes (length buffer) n count total (p .before) (bytesOf l) (λ all. lines start (length buffer) (suc n) all (linesOf (drop (b .next) text)))
-            (judged (length buffer) n (p .before) (λ all. lines start (length buffer) (suc n) all (linesOf (drop (b .next) text))) l)
+        goes : Goes (length buffer) n count total (p .before) (bytesOf l) later (judged (length buffer) n (p .before) later l)
         goes = judged-go (length buffer) n count (p .before) _ (p .size) total l (rw long at h)
 
         pub pass-room : count + length (bytesOf l) ≤ length bytes
@@ -179,7 +191,8 @@ module _ (text : List ℕ) (start : ℕ) (buffer : List ℕ) (writing : Bool) wh
               within = c .inside;
               few = omega (arith, p .few, c .later);
               same = next ∙ g .same ∙ (rw (add-one n));
-              kept = e ∙ (rw (p .kept) (shown-more writing (p .before) (bytesOf l) buffer count (p .size) (omega (arith, g .size, g .fits))));
+              kept =
+                  e ∙ (rw (p .kept) (shown-more writing (p .before) (bytesOf l) buffer count (p .size) (omega (arith, g .size, g .fits))));
             }
 
 -- A pass that judges and then, where nothing is wrong, one that writes.

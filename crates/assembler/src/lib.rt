@@ -153,7 +153,8 @@ fn pass(text: &[u8], start: u16, bytes: &mut [u8], writing: bool) -> Assembly
 
 pub fn assemble(text: &[u8], start: u16, bytes: &mut [u8]) -> Assembly
     ensures answered { λ r. ⌜ r ≡ answer (assembled start (length (now (bytes .entry))) (now (text .entry))) ⌝ }
-    ensures left { λ r. ⌜ now (bytes .exit) ≡ left (assembled start (length (now (bytes .entry))) (now (text .entry))) (now (bytes .entry)) ⌝ }
+    ensures left { λ r. ⌜ now (bytes .exit)
+        ≡ left (assembled start (length (now (bytes .entry))) (now (text .entry))) (now (bytes .entry)) ⌝ }
 {
     let judged = pass(text, start, bytes, false);
     match judged {

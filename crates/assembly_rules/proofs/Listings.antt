@@ -13,7 +13,7 @@ use lib.ListN.{length, drop, length-append, length-drop}
 use Rattle.rules.specs.Basics.{at, sum16}
 use Rattle.rules.specs.Opcodes.{Entry, undefined, alone, byte, word, late, decode, sizeOf, isDefined, instructionOf}
 use Rattle.laws.proofs.Tests.{and-right, if-case, if-both}
-use Rattle.assembly_rules.proofs.Cases.{texts, refusals, listings}
+use Rattle.assembly_rules.proofs.Cases.{texts, faults, listings}
 use Rattle.assembly_rules.specs.declared.Shape.{Shape}
 use Rattle.assembly_rules.specs.declared.Shape.the-variants as shape
 use Rattle.assembly_rules.specs.Mnemonics.{shapeOf}

@@ -7,7 +7,7 @@ use mathlib.Core.List.{List, [], _∷_, _++_}
 use lib.Dec.{leb}
 use lib.ListN.{length, length-append}
 use Rattle.rules.specs.Basics.{if_then_else_, sum16}
-use Rattle.assembly_rules.proofs.Cases.{texts, refusals, listings}
+use Rattle.assembly_rules.proofs.Cases.{texts, faults, listings}
 use Rattle.assembly_rules.specs.declared.Fault.{Fault}
 use Rattle.assembly_rules.specs.declared.Line.{Line}
 use Rattle.assembly_rules.specs.declared.Line.the-variants.{Nothing, One, Two, Three, Wrong}

@@ -9,7 +9,7 @@ use lib.Dec.{ltb, leb, eqb}
 use Rattle.rules.specs.Basics.{if_then_else_, all}
 use Rattle.rules.specs.Text.{digit}
 use Rattle.laws.proofs.Tests.{and-left, and-right, all-at}
-use Rattle.assembly_rules.proofs.Cases.{texts, refusals, listings}
+use Rattle.assembly_rules.proofs.Cases.{texts, faults, listings}
 use Rattle.assembly_rules.specs.declared.Line.{Line}
 use Rattle.assembly_rules.specs.Characters.{place, isSpace, skip}
 use Rattle.assembly_rules.specs.Sums.{deepest}

@@ -8,10 +8,11 @@ use mathlib.Core.List.{List, [], _∷_, _++_, map, append-nil, append-assoc}
 use borrow.Author.Tests.{eqb-true, leb-true, lt-ltb, le-ltb, le-leb, ne-eqb}
 use lib.Dec.{ltb, leb, eqb}
 use lib.ListN.{length, take, drop, length-append, length-drop, take-append-drop}
-use lib.Seq.{getD-drop, length-take-le}
+use lib.Seq.{getD-drop, length-take-le, take-append-seam}
 use Rattle.rules.specs.Basics.{if_then_else_, all, at, sum16}
 use Rattle.rules.specs.Opcodes.{Entry, decode, sizeOf, isDefined, instructionOf}
 use Rattle.rules.specs.Operations.{target}
+use Rattle.rules.specs.Step.{front}
 use Rattle.rules.specs.Table.{table}
 use Rattle.rules.specs.Text.{digit, hex}
 use Rattle.rules.proofs.Table.{everywhere}
@@ -26,10 +27,11 @@ use Rattle.assembly_rules.specs.Characters.{said, run, skip}
 use Rattle.assembly_rules.specs.Operands.{operand}
 use Rattle.assembly_rules.specs.Mnemonics.{byteName, nameOf, shapeOf, numbered, opcodeOf, has, isMnemonic}
 use Rattle.assembly_rules.specs.Lines.{branchLine, coded, valued, written, lineOf}
-use Rattle.assembly_rules.specs.Assembly.{linesOf, Made, made, wrong, fitted, judged, lines, assembled}
-use Rattle.assembly_rules.specs.Listing.{lettersOf, operandText, Listed, instructionLine, lineAt, textOf}
+use Rattle.assembly_rules.specs.Assembly.{linesOf, Made, made, wrong, fitted, judged, lines, assembled, told, Words, assembleWords}
+use Rattle.assembly_rules.specs.Listing.{lettersOf, operandText, Listed, instructionLine, lineAt, textOf, listWords}
 use Rattle.assembly_rules.proofs.Listings.{line-size, text-first, text-none}
-use Rattle.assembly_rules.proofs.Plain.{IsPlain, Plain, plain-append, all-plain, allPlain, line-plain, lines-plain, Digit, digit-known}
+use Rattle.assembly_rules.proofs.Plain.{IsPlain, Plain, plain-append, all-plain, allPlain, line-plain, lines-plain}
+use Rattle.assembly_rules.proofs.Plain.{Digit, digit-known}
 use Rattle.assembly_rules.proofs.Spelt.{readAs, operand-read}
 
 -- the line that a shape makes of an opcode and what follows it
@@ -52,9 +54,6 @@ lineFor shape.Indirect n low high = Three n low high
 branch-read : (n a low : ℕ) → low < 256 → branchLine n a (target (sum16 a 2) low) ≡ Two n low
 branch-read n a low h = go (decLe 128 low)
   where
-    next : ℕ
-    next = sum16 a 2
-
     go : Dec (128 ≤ low) → branchLine n a (target (sum16 a 2) low) ≡ Two n low
     go (yes l) =
         let e : (target (sum16 a 2) low + (65536 - sum16 a 2)) % 65536 ≡ low + 65280 = omega arith in
@@ -104,7 +103,8 @@ plain-word : (low high : ℕ) → low < 256 → high < 256 → (p q : List ℕ) 
     Plain (p ++ hex high ++ hex low ++ q)
 plain-word low high f g p q x y =
     plain-append (p ++ hex high ++ hex low) q
-    (plain-append (p ++ hex high) (hex low) (plain-append p (hex high) (all-plain p x) (plain-hex high g)) (plain-hex low f)) (all-plain q y)
+    (plain-append (p ++ hex high) (hex low) (plain-append p (hex high) (all-plain p x) (plain-hex high g)) (plain-hex low f))
+    (all-plain q y)
 
 module _ (a low high : ℕ) (f : low < 256) (g : high < 256) where
   -- as every operand begins: with nothing, or a space
@@ -192,9 +192,11 @@ module _ (low high : ℕ) where
   abbrev shapeAt : Entry → Shape
   shapeAt e = shapeOf (instructionOf e low high)
 
+abbrev respelt : ℕ → ℕ
+respelt m = ((1 * 36 + m / 1296 % 36) * 36 + m / 36 % 36) * 36 + m % 36
+
 abbrev isNamed : ℕ → Bool
-isNamed m =
-    eqb (((1 * 36 + m / 1296 % 36) * 36 + m / 36 % 36) * 36 + m % 36) m && isMnemonic m && not (eqb m 1) && not (eqb m byteName)
+isNamed m = eqb (respelt m) m && isMnemonic m && not (eqb m 1) && not (eqb m byteName)
 
 abbrev isGood : ℕ → Entry → ℕ → Shape → Bool
 isGood n e m s =
@@ -237,7 +239,7 @@ otherwise false b h e = h
 
 is-named : (m : ℕ) → isNamed m ≡ true → Named m
 is-named m h =
-    let k = four (eqb (((1 * 36 + m / 1296 % 36) * 36 + m / 36 % 36) * 36 + m % 36) m) (isMnemonic m) (not (eqb m 1)) (not (eqb m byteName)) h in
+    let k = four (eqb (respelt m) m) (isMnemonic m) (not (eqb m 1)) (not (eqb m byteName)) h in
     record { spelt = eqb-true _ _ (k .0); known = k .1; some = negated _ (k .2); other = negated _ (k .3) }
 
 is-good : (n : ℕ) (e : Entry) (m : ℕ) (s : Shape) → isGood n e m s ≡ true → isDefined e ≡ true → Good n e m s
@@ -252,7 +254,8 @@ is-good n e m s h d =
     }
 
 -- whatever its operand
-good-at : (n low high : ℕ) → n < 256 → isDefined (decode n) ≡ true → Good n (decode n) (nameAt low high (decode n)) (shapeAt low high (decode n))
+good-at : (n low high : ℕ) → n < 256 → isDefined (decode n) ≡ true →
+    Good n (decode n) (nameAt low high (decode n)) (shapeAt low high (decode n))
 good-at n low high h d =
     let name = everywhere (nameAt low high) (nameAt 0 0) (names-same low high) n h in
     let form = everywhere (shapeAt low high) (shapeAt 0 0) (shapes-same low high) n h in
@@ -305,7 +308,8 @@ module _ (bytes : List ℕ) where
   takes shape.Indirect h = takes-three bytes h
 
 module _ (room n : ℕ) (before : List ℕ) (goOn : List ℕ → Made) where
-  judged-for : (s : Shape) (opcode low high : ℕ) → judged room n before goOn (lineFor s opcode low high) ≡ fitted room n before goOn (bytesFor s opcode low high)
+  judged-for : (s : Shape) (opcode low high : ℕ) →
+      judged room n before goOn (lineFor s opcode low high) ≡ fitted room n before goOn (bytesFor s opcode low high)
   judged-for shape.Implied opcode low high = refl
   judged-for shape.Accumulator opcode low high = refl
   judged-for shape.Immediate opcode low high = refl
@@ -332,7 +336,10 @@ module _ (a : ℕ) (bytes : List ℕ) (small : Bytes bytes) (some : 0 < length b
 
   -- an instruction that is whole
   again-whole : isDefined entry ≡ true → sizeOf entry ≤ length bytes →
-      Again a bytes (record { size = sizeOf entry; text = instructionLine a (low bytes) (high bytes) (instructionOf entry (low bytes) (high bytes)) })
+      Again a bytes (record {
+        size = sizeOf entry;
+        text = instructionLine a (low bytes) (high bytes) (instructionOf entry (low bytes) (high bytes));
+      })
   again-whole d l =
       let k = good-at (first bytes) (low bytes) (high bytes) (small 0) d in
       let there : has m s ≡ true = rw (k .opcode) (lt-ltb (first bytes) 256 (small 0)) in
@@ -405,12 +412,14 @@ module _ (start room : ℕ) where
       let size-part : length part ≡ l .size = length-take-le (l .size) all (size .1) in
       let size-rest : length rest′ ≡ length all - l .size = length-drop (l .size) all in
       let next : sum16 a (l .size) ≡ sum16 start (length (before ++ part)) =
-      sum-more start (length before) (l .size) ∙ ap (sum16 start) (sym (length-append before part ∙ ap (λ (o : ℕ). length before + o) size-part)) in
+      sum-more start (length before) (l .size)
+      ∙ ap (sum16 start) (sym (length-append before part ∙ ap (λ (o : ℕ). length before + o) size-part)) in
       let text : linesOf (textOf a all) ≡ l .text ∷ linesOf (textOf (sum16 start (length (before ++ part))) rest′) =
       ap linesOf (text-first a all (omega arith)) ∙ lines-plain (l .text) (textOf (sum16 a (l .size)) rest′) (one .plain)
       ∙ ap (λ (o : ℕ). l .text ∷ linesOf (textOf o rest′)) next in
       let goOn : List ℕ → Made = λ bytes. lines start room (suc n) bytes (linesOf (textOf (sum16 start (length (before ++ part))) rest′)) in
-      let room-here : leb (length before + length part) room ≡ true = le-leb (length before + length part) room (omega (arith, size-part, size .1)) in
+      let room-here : leb (length before + length part) room ≡ true =
+      le-leb (length before + length part) room (omega (arith, size-part, size .1)) in
       ap (lines start room n before) text
       ∙ one .makes room n before goOn
       ∙ ap (λ (t : Bool). if t then goOn (before ++ part) else wrong Fault.NoRoom n) room-here
@@ -432,3 +441,14 @@ module _ (start room : ℕ) where
   listed-again bytes h small fits =
       let here : sum16 start 0 ≡ start = omega arith in
       ap (λ (a : ℕ). assembled start room (textOf a bytes)) (sym here) ∙ trip (length bytes) 1 [] bytes (omega arith) small (omega arith)
+
+-- the same of the two calls: what one leaves in its buffer, the other takes
+pub words-again : (start : ℕ) (bytes text buffer : List ℕ) → start < 65536 → Bytes bytes → length (textOf start bytes) ≤ length text →
+    length bytes ≤ length buffer →
+    assembleWords (take (length (textOf start bytes)) (listWords bytes start text .left)) start buffer ≡
+    record { word = told 0 (length bytes); left = front bytes buffer }
+unfolding assembleWords listWords
+words-again start bytes text buffer h small room fits =
+    let all = textOf start bytes in
+    let seam = take-append-seam all (drop (length all) text) in
+    rw (le-leb (length all) (length text) room, seam, listed-again start (length buffer) bytes h small fits)

@@ -36,8 +36,8 @@ module _ (v : ℕ) (h : v < 256) where
   byte-read : (t : List ℕ) → Ends 16 2 t → number (digit (v / 16) ∷ digit (v % 16) ∷ t) ≡ value v false t
   byte-read t e =
       let same : (0 * 16 + v / 16) * 16 + v % 16 ≡ v = omega arith in
-      two-digits (digit (v / 16)) (digit (v % 16)) (v / 16) (v % 16) (digit-known (v / 16) (omega arith)) (digit-known (v % 16) (omega arith))
-      (omega arith) (omega arith) t e
+      two-digits (digit (v / 16)) (digit (v % 16)) (v / 16) (v % 16) (digit-known (v / 16) (omega arith))
+      (digit-known (v % 16) (omega arith)) (omega arith) (omega arith) t e
       ∙ ap (λ (n : ℕ). value n false t) same
 
 module _ (low high : ℕ) (f : low < 256) (g : high < 256) where
@@ -47,8 +47,8 @@ module _ (low high : ℕ) (f : low < 256) (g : high < 256) where
       let same : (((0 * 16 + high / 16) * 16 + high % 16) * 16 + low / 16) * 16 + low % 16 ≡ high * 256 + low = omega arith in
       four-digits (digit (high / 16)) (digit (high % 16)) (high / 16) (high % 16) (digit-known (high / 16) (omega arith))
       (digit-known (high % 16) (omega arith)) (omega arith) (omega arith)
-      (digit (low / 16)) (digit (low % 16)) (low / 16) (low % 16) (digit-known (low / 16) (omega arith)) (digit-known (low % 16) (omega arith))
-      (omega arith) (omega arith) t
+      (digit (low / 16)) (digit (low % 16)) (low / 16) (low % 16) (digit-known (low / 16) (omega arith))
+      (digit-known (low % 16) (omega arith)) (omega arith) (omega arith) t
       ∙ ap (λ (n : ℕ). value n true t) same
 
 -- the operand that a shape's text is read as

@@ -24,7 +24,8 @@ step-to-requires c κs =
     let at-loop = c .before .before .before .before .before in
     let start = at-loop .before .before .before in
     let l = at-loop .loop in
-    let size = pass-size (now (start .args .text)) (start .args .start) (now (start .args .bytes)) (start .args .writing) (l .bytes) _ _ _ (l .inv) in
+    let size = pass-size (now (start .args .text)) (start .args .start) (now (start .args .bytes)) (start .args .writing) (l .bytes) _ _ _
+    (l .inv) in
     omega (arith, size, l .inv .fits)
 
 same-length : tie.Need-same-length Inv-loop μ-loop
@@ -46,7 +47,8 @@ returns c =
     let b = now (start .args .bytes) in
     let size = pass-size t (start .args .start) b (start .args .writing) (l .bytes) (l .at) (l .n) (l .count) (l .inv) in
     pass-stop t (start .args .start) b (start .args .writing) (l .bytes) (l .at) (l .n) (l .count) (l .inv) (at-cut .cut .result)
-    (at-cut .cut .ensures) (at-line .line-of .result) (length (l .bytes)) (rw (at-line .before .address-of .ensures) at (at-line .line-of .ensures)) size _
+    (at-cut .cut .ensures) (at-line .line-of .result) (length (l .bytes))
+    (rw (at-line .before .address-of .ensures) at (at-line .line-of .ensures)) size _
     (sym (c .before .before .before .step-to .ensures) ∙ c .before .e .given .1)
 
 put-if-requires : tie.Need-put-if-requires Inv-loop μ-loop
@@ -61,7 +63,8 @@ put-if-requires c κs =
     let b = now (start .args .bytes) in
     let size = pass-size t (start .args .start) b (start .args .writing) (l .bytes) (l .at) (l .n) (l .count) (l .inv) in
     pass-room t (start .args .start) b (start .args .writing) (l .bytes) (l .at) (l .n) (l .count) (l .inv) (at-cut .cut .result)
-    (at-cut .cut .ensures) (at-line .line-of .result) (length (l .bytes)) (rw (at-line .before .address-of .ensures) at (at-line .line-of .ensures)) size _
+    (at-cut .cut .ensures) (at-line .line-of .result) (length (l .bytes))
+    (rw (at-line .before .address-of .ensures) at (at-line .line-of .ensures)) size _
     (sym (at-step .step-to .ensures) ∙ c .before .before .total .given .1)
 
 loop-again : tie.Need-loop-again Inv-loop μ-loop
@@ -77,7 +80,8 @@ loop-again c =
     let b = now (start .args .bytes) in
     let size = pass-size t (start .args .start) b (start .args .writing) (l .bytes) (l .at) (l .n) (l .count) (l .inv) in
     pass-more t (start .args .start) b (start .args .writing) (l .bytes) (l .at) (l .n) (l .count) (l .inv) (at-cut .cut .result)
-    (at-cut .cut .ensures) (at-line .line-of .result) (length (l .bytes)) (rw (at-line .before .address-of .ensures) at (at-line .line-of .ensures)) size _
+    (at-cut .cut .ensures) (at-line .line-of .result) (length (l .bytes))
+    (rw (at-line .before .address-of .ensures) at (at-line .line-of .ensures)) size _
     (sym (at-step .step-to .ensures) ∙ at-put .before .before .before .total .given .1) _ (at-put .put-if .ensures)
 
 same-length-2 : tie.Need-same-length-2 Inv-loop μ-loop

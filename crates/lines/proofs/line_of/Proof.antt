@@ -17,7 +17,8 @@ returns-2 c =
     let at-deep = c .before .before .before in
     let at-content = at-deep .before .before in
     let start = at-content .before .before in
-    line-written (start .args .address) (at-content .content .result) (now (start .args .l)) (at-content .content .ensures .0) (c .written .result)
+    line-written (start .args .address) (at-content .content .result) (now (start .args .l)) (at-content .content .ensures .0)
+    (c .written .result)
     (sym (at-deep .too-deep .ensures) ∙ c .before .before .if1 .left) (c .written .ensures)
 
 pub line-of-spec : {M : Type 1} → statement M

@@ -14,7 +14,8 @@ unfolding operand
 returns-2 c =
     let at-hash = c .before .before in
     rw (at-hash .before .before .next .ensures .same)
-    (simp (ne-eqb _ _ (at-hash .before .if1 .left), eq-eqb _ _ (at-hash .if2 .taken)) (rw (c .before .sum .ensures .same) (c .immediate .ensures)))
+    (simp (ne-eqb _ _ (at-hash .before .if1 .left), eq-eqb _ _ (at-hash .if2 .taken))
+    (rw (c .before .sum .ensures .same) (c .immediate .ensures)))
 
 returns-3 : tie.Need-returns-3
 unfolding operand

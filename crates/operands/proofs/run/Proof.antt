@@ -23,7 +23,9 @@ abbrev μ-loop : tie.MeasureT-loop
 μ-loop s at base n value₀ left₀ p₀ value left p = left
 
 loop-holds : tie.Need-loop-holds Inv-loop μ-loop
-loop-holds c = let start = c .before in record { within = start .pre .0; few = omega arith; small = omega (arith, start .pre .2); same = refl }
+loop-holds c =
+    let start = c .before in
+    record { within = start .pre .0; few = omega arith; small = omega (arith, start .pre .2); same = refl }
 
 returns : tie.Need-returns Inv-loop μ-loop
 returns c =
