@@ -1,13 +1,13 @@
 -- A line by the instruction that stands there whole, and a text line by line.
-use Prim.Native.Nat.{ℕ, _+_, _-_, _≤_, _<_}
+use Prim.Native.Nat.{ℕ, suc, _+_, _-_, _≤_, _<_}
 use Prim.Native.Char.{code}
 use native.Mathlib.Omega.{arith}
 use mathlib.Core.Path.{_≡_, refl, sym, ap, _∙_}
 use mathlib.Core.Bool.{Bool, true, false, _&&_, not}
 use mathlib.Core.List.{List, [], _∷_, _++_, append-nil, append-assoc}
-use borrow.Author.Tests.{leb-true, le-leb, lt-leb}
-use lib.Dec.{leb, eqb}
-use lib.ListN.{length, take, drop, length-append, length-drop, take-append-drop, drop-of-length-le}
+use borrow.Author.Tests.{leb-true, le-leb, lt-leb, ltb-true, ltb-false, lt-ltb, le-ltb}
+use lib.Dec.{leb, ltb, eqb}
+use lib.ListN.{length, take, drop, set, length-append, length-drop, take-append-drop, drop-of-length-le}
 use lib.Seq.{sets, getD-drop, take-add, drop-drop, take-append-seam, drop-append-seam}
 use Rattle.rules.specs.declared.Instruction.{Instruction}
 use Rattle.rules.specs.declared.Instruction.the-variants.{Undefined}
@@ -16,6 +16,7 @@ use Rattle.rules.specs.Opcodes.{Entry, undefined, alone, byte, word, late, deco
 use Rattle.rules.specs.Step.{front}
 use Rattle.rules.specs.Table.{table}
 use Rattle.rules.specs.Text.{hex}
+use Rattle.laws.proofs.Tests.{if-case}
 use Rattle.assembly_rules.specs.declared.Shape.{Shape}
 use Rattle.assembly_rules.specs.declared.Fault.{Fault}
 use Rattle.assembly_rules.specs.declared.Fault.the-variants.{NoRoom}
@@ -26,7 +27,7 @@ use Rattle.assembly_rules.specs.Mnemonics.{nameOf, shapeOf}
 use Rattle.assembly_rules.specs.Listing.{operandText, Listed, instructionLine, lineAt, textOf, listing}
 use Rattle.assembly_rules.proofs.Listings.{operand-width, line-size, text-first, text-none, text-anywhere}
 use Rattle.characters.specs.Shown.{Puts}
-use Rattle.characters.proofs.Laws.{puts-append, sets-front}
+use Rattle.characters.proofs.Laws.{puts-append, sets-front, sets-more}
 use Rattle.rules.proofs.Table.{everywhere}
 use Rattle.source.specs.Lines.{sizeBy, countBy, foundIn, wholeIn, textBy, Spells, Measures, Holds, Lists}
 
@@ -196,19 +197,13 @@ module _ (bytes : List ℕ) where
             let left = ap length (line-next h) in
             omega (arith, left, length-drop p w, length-append x y, length-append (m .text) (code "\n" ∷ []), line-count)
 
-        pub piece-room : p + length (take (count - 0) piece) ≤ length (textOf start bytes)
-        piece-room =
-            let e : count - 0 ≡ count = omega arith in
-            rw (e, l .spells .text, ← line-count) putting-room
-
-        pub putting-more : (t″ : List ℕ) → t″ ≡ sets t′ p (take (count - 0) piece) → Putting t″ (i + size) (p + count)
+        pub putting-more : (t″ : List ℕ) → t″ ≡ sets t′ p (take count piece) → Putting t″ (i + size) (p + count)
         putting-more t″ e =
             let w = textOf start bytes in
             let m = lineFrom bytes start i in
             let x = m .text ++ code "\n" ∷ [] in
             let n = next w x (textOf (sum16 start (i + m .size)) (drop (i + m .size) bytes)) p (line-next h) in
-            let all : count - 0 ≡ count = omega arith in
-            let put = e ∙ ap (λ (q : List ℕ). sets t′ p q) (ap (λ (j : ℕ). take j piece) all ∙ l .spells .text) in
+            let put = e ∙ ap (λ (q : List ℕ). sets t′ p q) (l .spells .text) in
             rw (l .takes, line-count) (record {
               within = rest-size (sum16 start i) i h .1;
               put = rw (n .0) (puts-append (k .put) (record { end = refl; text = put }));
@@ -249,3 +244,36 @@ lists-none l t f e = record { answer = e; text = go (leb (length l) (length t)) 
         t ≡ (if b then front l t else t)
     go true g = let z : _≡_ {A = ℕ} 0 1 = cc in absurd (omega arith)
     go false g = refl
+
+-- the first characters of a line, of which at most so many are put
+abbrev pub upTo : ℕ → ℕ → ℕ
+upTo k count = if ltb k count then k else count
+
+up-behind : (k count : ℕ) → count ≤ k → upTo k count ≡ count
+up-behind k count h = rw (le-ltb k count h)
+
+up-next : (k count : ℕ) → k < count → upTo (k + 1) count ≡ suc k
+up-next k count h =
+    if-case (λ (n : ℕ). n ≡ suc k) (ltb (k + 1) count) (k + 1) count (λ e. omega arith) (λ e. omega (arith, h, ltb-false (k + 1) count e))
+
+pub put-more : (t l : List ℕ) (p k count : ℕ) → count ≤ length l →
+    (if ltb k count then set (sets t p (take (upTo k count) l)) (p + k) (at l k) else sets t p (take (upTo k count) l)) ≡
+    sets t p (take (upTo (k + 1) count) l)
+put-more t l p k count h = go (ltb k count) refl
+  where
+    go : (b : Bool) → ltb k count ≡ b →
+        (if ltb k count then set (sets t p (take (upTo k count) l)) (p + k) (at l k) else sets t p (take (upTo k count) l)) ≡
+        sets t p (take (upTo (k + 1) count) l)
+    go true e =
+        let less = ltb-true k count e in
+        rw (e, up-next k count less) (sets-more t l p k (omega (arith, less)))
+    go false e =
+        let less = ltb-false k count e in
+        rw (e, up-behind (k + 1) count (omega (arith, less)))
+
+pub put-first : (t l : List ℕ) (p count : ℕ) → t ≡ sets t p (take (upTo 0 count) l)
+put-first t l p count = if-case (λ (n : ℕ). t ≡ sets t p (take n l)) (ltb 0 count) 0 count (λ e. refl)
+    (λ e. let z : count ≡ 0 = omega (arith, ltb-false 0 count e) in rw z)
+
+pub put-last : (t l : List ℕ) (p k count : ℕ) → count ≤ k → sets t p (take (upTo k count) l) ≡ sets t p (take count l)
+put-last t l p k count h = ap (λ (n : ℕ). sets t p (take n l)) (up-behind k count h)

@@ -6,10 +6,11 @@ use assembly_rules::Shape;
 use rules::Instruction;
 ghost use Prim.Native.Nat.{_+_, _/_, _%_, _≤_, _<_};
 ghost use mathlib.Core.Path.{_≡_};
+ghost use mathlib.Core.Bool.{true};
 ghost use mathlib.Core.List.{_++_};
-ghost use lib.ListN.{length, drop};
+ghost use lib.ListN.{length, take, drop, set};
 ghost use lib.Seq.{sets};
-ghost use Rattle.rules.specs.Basics.{at, sum16};
+ghost use Rattle.rules.specs.Basics.{if_then_else_, at, sum16};
 ghost use Rattle.rules.specs.Text.{hex};
 ghost use Rattle.assembly_rules.specs.Characters.{said};
 ghost use Rattle.assembly_rules.specs.Listing.{lettersOf, operandText, lineAt, textOf, listing};
@@ -306,6 +307,28 @@ fn line_at(bytes: &[u8], i: usize, start: u16) -> Line
     }
 }
 
+fn put_if(text: &mut [u8], place: usize, c: u8, here: bool)
+    requires { ⌜ (here ≡ true → place < length (now text)) ⌝ }
+    ensures { λ r. ⌜ now (text .exit) ≡ (if here then set (now (text .entry)) place c else now (text .entry)) ⌝ }
+{
+    if here {
+        text[place] = c;
+    }
+}
+
+// Puts a line's first characters at a place. A loop that ended with them would be a call of memcpy to the compiler, and the archive calls
+// nothing.
+fn put_line(text: &mut [u8], at: usize, line: &[u8], count: usize)
+    requires { ⌜ (count ≤ length (now line)) × (at + count ≤ length (now text)) ⌝ }
+    ensures { λ r. ⌜ now (text .exit) ≡ sets (now (text .entry)) at (take count (now (line .entry))) ⌝ }
+{
+    let mut k = 0;
+    while k < line.len() {
+        put_if(text, at + k, line[k], k < count);
+        k += 1;
+    }
+}
+
 fn put_lines(bytes: &[u8], start: u16, text: &mut [u8])
     requires { ⌜ length (textOf start (now bytes)) ≤ length (now text) ⌝ }
     ensures { λ r. ⌜ now (text .exit) ≡ sets (now (text .entry)) 0 (textOf start (now (bytes .entry))) ⌝ }
@@ -316,7 +339,7 @@ fn put_lines(bytes: &[u8], start: u16, text: &mut [u8])
         let line = line_at(bytes, i, start);
         let piece = line.text;
         let count = line.count;
-        characters::put(text, at, &piece[0..count]);
+        put_line(text, at, &piece, count);
         at += count;
         i += line.size;
     }

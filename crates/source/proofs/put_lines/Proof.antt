@@ -5,7 +5,7 @@ use borrow.Author.Needs.{needs}
 use denote.Ref.{now}
 use lib.ListN.{length}
 use Rattle.rules.specs.Basics.{sum16}
-use Rattle.source.proofs.Laws.{Putting, rest-size, putting-none, putting-room, piece-room, putting-more, putting-all}
+use Rattle.source.proofs.Laws.{Putting, rest-size, putting-none, putting-room, putting-more, putting-all}
 use Rattle.source.proofs.put_lines.Statement.{statement}
 use Rattle.source.proofs.put_lines.Tie as tie
 
@@ -20,23 +20,20 @@ loop-holds c =
     let start = c .before .before in
     (refl, putting-none (now (start .args .bytes)) (start .args .start) (now (start .args .text)) (start .fits .start .fits))
 
-part-put-end : tie.Need-part-put-end Inv-loop μ-loop
-part-put-end c = omega (arith, c .before .before .before .line-at .ensures .spells .within)
-
-put-requires : tie.Need-put-requires Inv-loop μ-loop
-put-requires c κs =
-    let at-line = c .before .before .before .before in
+put-line-requires : tie.Need-put-line-requires Inv-loop μ-loop
+put-line-requires c κs =
+    let at-line = c .before .before .before in
     let l = at-line .before .before .loop in
     let start = at-line .before .before .before .before .before in
     let bytes = now (start .args .bytes) in
-    let room = piece-room bytes (start .args .start) (now (start .args .text)) _ (l .i) (l .at) (l .inv .1) _ _ _
+    let room = putting-room bytes (start .args .start) (now (start .args .text)) _ (l .i) (l .at) (l .inv .1) _ _ _
     (at-line .before .loop-test .taken) (at-line .line-at .ensures) in
-    omega (arith, room, l .inv .0, start .pre)
+    (at-line .line-at .ensures .spells .within, omega (arith, room, l .inv .0, start .pre))
 
 add-at : tie.Need-add-at Inv-loop μ-loop
 add-at c =
     let at-put = c .before .before in
-    let at-line = at-put .before .before .before .before .before in
+    let at-line = at-put .before .before .before .before in
     let l = at-line .before .before .loop in
     let start = at-line .before .before .before .before .before in
     let bytes = now (start .args .bytes) in
@@ -47,7 +44,7 @@ add-at c =
 add-i : tie.Need-add-i Inv-loop μ-loop
 add-i c =
     let at-put = c .before .before .before in
-    let at-line = at-put .before .before .before .before .before in
+    let at-line = at-put .before .before .before .before in
     let l = at-line .before .before .loop in
     let start = at-line .before .before .before .before .before in
     let size = rest-size (now (start .args .bytes)) (sum16 (start .args .start) (l .i)) (l .i) (at-line .before .loop-test .taken) in
@@ -56,7 +53,7 @@ add-i c =
 loop-less : tie.Need-loop-less Inv-loop μ-loop
 loop-less c =
     let at-put = c .before .before .before in
-    let at-line = at-put .before .before .before .before .before in
+    let at-line = at-put .before .before .before .before in
     let l = at-line .before .before .loop in
     let start = at-line .before .before .before .before .before in
     let size = rest-size (now (start .args .bytes)) (sum16 (start .args .start) (l .i)) (l .i) (at-line .before .loop-test .taken) in
@@ -65,12 +62,12 @@ loop-less c =
 loop-again : tie.Need-loop-again Inv-loop μ-loop
 loop-again c =
     let at-put = c .before .before .before in
-    let at-line = at-put .before .before .before .before .before in
+    let at-line = at-put .before .before .before .before in
     let l = at-line .before .before .loop in
     let start = at-line .before .before .before .before .before in (
-      at-put .put .kept .0 ∙ l .inv .0,
+      at-put .put-line .kept .0 ∙ l .inv .0,
       putting-more (now (start .args .bytes)) (start .args .start) (now (start .args .text)) _ (l .i) (l .at) (l .inv .1) _ _ _
-          (at-line .before .loop-test .taken) (at-line .line-at .ensures) _ (at-put .put .ensures),
+          (at-line .before .loop-test .taken) (at-line .line-at .ensures) _ (at-put .put-line .ensures),
     )
 
 returns : tie.Need-returns Inv-loop μ-loop
@@ -82,5 +79,5 @@ returns c =
 pub put-lines-spec : {M : Type 1} → statement M
 put-lines-spec =
     tie.close
-    (tie.spec Inv-loop μ-loop loop-holds (λ c κs. search needs) (λ c. search needs) (λ c. search needs) part-put-end put-requires add-at
+    (tie.spec Inv-loop μ-loop loop-holds (λ c κs. search needs) (λ c. search needs) put-line-requires add-at
     add-i loop-less loop-again (λ c. c .before .loop .inv .0) returns)
