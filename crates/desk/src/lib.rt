@@ -14,33 +14,6 @@ ghost use Rattle.admission_rules.specs.Safety.{Safe};
 ghost use Rattle.assembly_rules.specs.Assembly.{numberOf, told, assemblyWord, assembleWords};
 ghost use Rattle.assembly_rules.specs.Listing.{listingWord, listWords};
 
-// Demand 3: 0 promises that the image is safe.
-#[no_mangle]
-pub extern "C" fn wankitare_admit(image: &[u8], c: u8, map: &[u8]) -> u64
-    ensures exact { λ r. ⌜ r ≡ verdictWord (admit images (now (image .entry)) c (now (map .entry))) ⌝ }
-    ensures safe { λ r. ⌜ (r ≡ 0 → Safe (now (image .entry)) c (now (map .entry))) ⌝ }
-{
-    match admission::admit(image, c, map) {
-        Verdict::Accepted => 0,
-        Verdict::Barred(e) => words::refusal_word(e),
-    }
-}
-
-#[no_mangle]
-pub extern "C" fn wankitare_pages(
-    reads: &mut [u64; 256],
-    writes: &mut [u64; 256],
-    accesses: &[u8],
-) -> u64
-    ensures { λ r. ⌜ record { word = r; reads = now (reads .exit); writes = now (writes .exit) }
-        ≡ pageWords (fed (now (reads .entry)) (now (writes .entry)) (now (accesses .entry))) ⌝ }
-{
-    match pages::feed(reads, writes, accesses) {
-        CountAnswer::Counted => 0,
-        CountAnswer::Uncounted(e) => words::refusal_word(e),
-    }
-}
-
 fn number_of(e: Fault) -> u8
     ensures { λ r. ⌜ r ≡ numberOf e ⌝ }
 {
@@ -75,6 +48,33 @@ fn listing_word(l: Listing) -> u64
     match l {
         Listing::Listed(count) => told(0, count),
         Listing::Unlisted(e) => told(number_of(e), 0),
+    }
+}
+
+// Demand 3: 0 promises that the image is safe.
+#[no_mangle]
+pub extern "C" fn wankitare_admit(image: &[u8], c: u8, map: &[u8]) -> u64
+    ensures exact { λ r. ⌜ r ≡ verdictWord (admit images (now (image .entry)) c (now (map .entry))) ⌝ }
+    ensures safe { λ r. ⌜ (r ≡ 0 → Safe (now (image .entry)) c (now (map .entry))) ⌝ }
+{
+    match admission::admit(image, c, map) {
+        Verdict::Accepted => 0,
+        Verdict::Barred(e) => words::refusal_word(e),
+    }
+}
+
+#[no_mangle]
+pub extern "C" fn wankitare_pages(
+    reads: &mut [u64; 256],
+    writes: &mut [u64; 256],
+    accesses: &[u8],
+) -> u64
+    ensures { λ r. ⌜ record { word = r; reads = now (reads .exit); writes = now (writes .exit) }
+        ≡ pageWords (fed (now (reads .entry)) (now (writes .entry)) (now (accesses .entry))) ⌝ }
+{
+    match pages::feed(reads, writes, accesses) {
+        CountAnswer::Counted => 0,
+        CountAnswer::Uncounted(e) => words::refusal_word(e),
     }
 }
 
