@@ -231,6 +231,15 @@ fits size room count e = go (leb size room) refl e
     go true h g = leb-true size room h
     go false h g = let z : _≡_ {A = ℕ} 0 1 = cc in absurd (omega arith)
 
+-- so many characters are those of the buffer
+pub within : (size room count : ℕ) → Listing.Listed count ≡ listing size room → count ≤ room
+within size room count e = go (leb size room) refl e
+  where
+    go : (b : Bool) → leb size room ≡ b → Listing.Listed count ≡ (if b then Listing.Listed size else Listing.Unlisted NoRoom) →
+        count ≤ room
+    go true h g = let k : count ≡ size = cc in rw k (leb-true size room h)
+    go false h g = let z : _≡_ {A = ℕ} 0 1 = cc in absurd (omega arith)
+
 pub lists-all : (l t t′ : List ℕ) (count : ℕ) → Listing.Listed count ≡ listing (length l) (length t) → t′ ≡ sets t 0 l →
     Lists l (Listing.Listed count) t t′
 lists-all l t t′ count e h =
