@@ -1,0 +1,151 @@
+// The assembler: a text from standard input, its bytes to standard output. The argument is the address of the first one.
+
+use assembly_rules::Assembly;
+use assembly_rules::Fault;
+use libc::STDERR_FILENO;
+use libc::STDIN_FILENO;
+use libc::STDOUT_FILENO;
+ghost use Prim.Native.Nat.{_≤_};
+ghost use mathlib.Core.Path.{_≡_};
+ghost use lib.ListN.{length};
+ghost use Rattle.assembly_rules.specs.Assembly.{numberOf};
+
+// One byte more than the longest text has: that shows an input that is too long.
+const ROOM: usize = 4194305;
+
+// What the argument says.
+enum Start {
+    At(u16),
+    Nowhere,
+}
+
+// So many bytes were read, before the input ended or a read failed.
+struct Filled {
+    count: usize,
+    failed: bool,
+}
+
+// "the first argument is the start, four hexadecimal digits"
+fn start_of(word: &[u8]) -> Start {
+    if word.len() != 4 {
+        return Start::Nowhere;
+    }
+    let digits = operands::run(word, 0, 16, 0);
+    if digits.left != 0 {
+        return Start::Nowhere;
+    }
+    Start::At(digits.value as u16)
+}
+
+fn told() -> Start {
+    if os::arg_count() != 2 {
+        return Start::Nowhere;
+    }
+    let mut word = io::buffer();
+    let size = os::arg(1, &mut word);
+    start_of(&word[..size])
+}
+
+fn read_once(fd: i32, buffer: &mut [u8]) -> Filled
+    ensures { λ r. ⌜ r .count ≤ length (now (buffer .exit)) ⌝ }
+{
+    let got = libc::read(fd, buffer);
+    Filled {
+        count: io::count(got, buffer),
+        failed: got < 0,
+    }
+}
+
+// Reads until the buffer is full, or the input ends.
+fn fill(fd: i32, buffer: &mut [u8]) -> Filled
+    ensures { λ r. ⌜ r .count ≤ length (now (buffer .exit)) ⌝ }
+{
+    let mut done = 0;
+    while done < buffer.len() {
+        let filled = read_once(fd, &mut buffer[done..]);
+        let n = filled.count;
+        let failed = filled.failed;
+        if n == 0 {
+            return Filled {
+                count: done,
+                failed: failed,
+            };
+        }
+        done = done + n;
+    }
+    Filled {
+        count: done,
+        failed: false,
+    }
+}
+
+fn take(input: &mut [u8; ROOM]) -> Filled
+    ensures { λ r. ⌜ r .count ≤ length (now (input .exit)) ⌝ }
+{
+    fill(STDIN_FILENO, input)
+}
+
+fn give(output: &[u8]) {
+    if !io::write_all(STDOUT_FILENO, output) {
+        os::fail(b"standard output");
+    }
+}
+
+fn number_of(e: Fault) -> u8
+    ensures { λ r. ⌜ r ≡ numberOf e ⌝ }
+{
+    match e {
+        Fault::NotALine => 30,
+        Fault::NoSuchMode => 31,
+        Fault::BranchTooFar => 32,
+        Fault::TooDeep => 33,
+        Fault::NoRoom => 34,
+    }
+}
+
+// "a refusal goes to standard error as E, its number, and of the assembler the line"
+fn refuse(e: Fault, line: usize) {
+    io::write_all(STDERR_FILENO, b"E ");
+    io::print_decimal(STDERR_FILENO, number_of(e) as u64);
+    io::write_all(STDERR_FILENO, b" ");
+    io::print_decimal(STDERR_FILENO, line as u64);
+    io::write_all(STDERR_FILENO, b"\n");
+}
+
+fn assemble(text: &[u8], start: u16) {
+    let mut bytes = [0u8; 65536];
+    match assembler::assemble(text, start, &mut bytes) {
+        Assembly::Assembled(count) => give(&bytes[0..count]),
+        Assembly::Refused(e, n) => refuse(e, n),
+    }
+}
+
+fn assemble_input(start: u16) {
+    let mut text = [0u8; ROOM];
+    let taken = take(&mut text);
+    let count = taken.count;
+    if taken.failed {
+        os::fail(b"standard input");
+        return;
+    }
+    if count == ROOM {
+        io::write_all(
+            STDERR_FILENO,
+            b"standard input: a text has at most 4,194,304 bytes\n",
+        );
+        return;
+    }
+    assemble(&text[0..count], start);
+}
+
+fn main() {
+    match told() {
+        Start::At(address) => assemble_input(address),
+        Start::Nowhere => {
+            io::write_all(
+                STDERR_FILENO,
+                b"usage: assemble START <TEXT >BYTES, START in four hexadecimal digits\n",
+            );
+        }
+    }
+}
