@@ -79,6 +79,7 @@ fn fill(fd: i32, buffer: &mut [u8]) -> Filled
     }
 }
 
+// An array that is lent whole brings its length with it: no proof counts its zeros.
 fn take(input: &mut [u8; ROOM]) -> Filled
     ensures { λ r. ⌜ r .count ≤ length (now (input .exit)) ⌝ }
 {
@@ -103,6 +104,7 @@ fn list(bytes: &[u8], start: u16, text: &mut [u8]) {
     }
 }
 
+// The same of the text.
 fn list_within(bytes: &[u8], start: u16, text: &mut [u8; TEXT_ROOM]) {
     list(bytes, start, text);
 }
