@@ -1,5 +1,6 @@
 pub mod Admission
 pub mod Arithmetic
+pub mod Assembler
 pub mod Board
 pub mod Reading
 pub mod Writing
@@ -14,7 +15,10 @@ pub mod General
 pub mod Internal
 pub mod Interrupts
 pub mod Jumps
+pub mod Lines
 pub mod Listing
+pub mod Mnemonics
+pub mod Operands
 pub mod Operations
 pub mod Pages
 pub mod Processor
@@ -23,6 +27,7 @@ pub mod Report
 pub mod Restart
 pub mod Run
 pub mod Sequence
+pub mod Source
 pub mod Stacking
 pub mod State
 pub mod Step

@@ -1,0 +1,44 @@
+-- Each function of operands has one answer: what is left of a text tells its place, within the text.
+use Prim.Native.Nat.{ℕ, _≤_}
+use native.Mathlib.Omega.{arith}
+use mathlib.Core.Path.{_≡_, refl, sym, ap, _∙_}
+use mathlib.Core.List.{List}
+use lib.ListN.{length, drop, length-drop}
+use Rattle.assembly_rules.specs.Characters.{Run, Next}
+use Rattle.operands.specs.declared.Word.{Word}
+use Rattle.operands.specs.declared.Character.{Character}
+use Rattle.operands.specs.Places.{Ran, Ahead}
+use Rattle.operands.proofs as its
+use Rattle.unique.proofs.General.{Unique, answer}
+
+place-once : (s : List ℕ) (p q : ℕ) → p ≤ length s → q ≤ length s → drop p s ≡ drop q s → p ≡ q
+place-once s p q f g e = omega (arith, length-drop p s, length-drop q s, ap length e, f, g)
+
+ran : {r : Run} {s : List ℕ} {v w : Word} → Ran r s v → Ran r s w → v ≡ w
+ran {s = s} {v = v} {w = w} p q j =
+    let e = sym (p .same) ∙ q .same in
+    record {
+      value = ap (λ (r : Run). r .value) e j;
+      left = ap (λ (r : Run). r .left) e j;
+      at = place-once s (v .at) (w .at) (p .within) (q .within) (ap (λ (r : Run). r .rest) e) j;
+    }
+
+ahead : {n : Next} {s : List ℕ} {c d : Character} → Ahead n s c → Ahead n s d → c ≡ d
+ahead {s = s} {c = c} {d = d} p q j =
+    let e = sym (p .same) ∙ q .same in
+    record {
+      character = ap (λ (n : Next). n .character) e j;
+      at = place-once s (c .at) (d .at) (p .within) (q .within) (ap (λ (n : Next). n .rest) e) j;
+    }
+
+pub run : Unique its.run.Kinds.ps its.run.Kinds.r its.run.Reads.Post
+run κs a x y p q = answer refl (ran p q) refl
+
+pub skip : Unique its.skip.Kinds.ps its.skip.Kinds.r its.skip.Reads.Post
+skip κs a x y p q = answer refl (place-once _ _ _ (p .1) (q .1) (sym (p .0) ∙ q .0)) refl
+
+pub next : Unique its.next.Kinds.ps its.next.Kinds.r its.next.Reads.Post
+next κs a x y p q = answer refl (ahead p q) refl
+
+pub operand : Unique its.operand.Kinds.ps its.operand.Kinds.r its.operand.Reads.Post
+operand κs a x y = answer refl
