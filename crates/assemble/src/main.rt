@@ -5,10 +5,9 @@ use assembly_rules::Fault;
 use libc::STDERR_FILENO;
 use libc::STDIN_FILENO;
 use libc::STDOUT_FILENO;
+use operands::Found;
 ghost use Prim.Native.Nat.{_≤_};
-ghost use mathlib.Core.Path.{_≡_};
 ghost use lib.ListN.{length};
-ghost use Rattle.assembly_rules.specs.Assembly.{numberOf};
 
 // One byte more than the longest text has: that shows an input that is too long.
 const ROOM: usize = 4194305;
@@ -30,11 +29,15 @@ fn start_of(word: &[u8]) -> Start {
     if word.len() != 4 {
         return Start::Nowhere;
     }
-    let digits = operands::run(word, 0, 16, 0);
-    if digits.left != 0 {
-        return Start::Nowhere;
+    match operands::number(word, 0) {
+        Found::Value(start, four, _at) => {
+            if four {
+                return Start::At(start);
+            }
+            Start::Nowhere
+        }
+        Found::Nowhere => Start::Nowhere,
     }
-    Start::At(digits.value as u16)
 }
 
 fn told() -> Start {
@@ -92,22 +95,10 @@ fn give(output: &[u8]) {
     }
 }
 
-fn number_of(e: Fault) -> u8
-    ensures { λ r. ⌜ r ≡ numberOf e ⌝ }
-{
-    match e {
-        Fault::NotALine => 30,
-        Fault::NoSuchMode => 31,
-        Fault::BranchTooFar => 32,
-        Fault::TooDeep => 33,
-        Fault::NoRoom => 34,
-    }
-}
-
 // "a refusal goes to standard error as E, its number, and of the assembler the line"
 fn refuse(e: Fault, line: usize) {
     io::write_all(STDERR_FILENO, b"E ");
-    io::print_decimal(STDERR_FILENO, number_of(e) as u64);
+    io::print_decimal(STDERR_FILENO, faults::number_of(e) as u64);
     io::write_all(STDERR_FILENO, b" ");
     io::print_decimal(STDERR_FILENO, line as u64);
     io::write_all(STDERR_FILENO, b"\n");

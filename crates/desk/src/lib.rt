@@ -1,7 +1,6 @@
 // The functions that are called at a desk: numbers and byte slices in, one word out. A board that does not call them need not link them.
 
 use assembly_rules::Assembly;
-use assembly_rules::Fault;
 use assembly_rules::Listing;
 use rules::CountAnswer;
 use rules::Verdict;
@@ -11,20 +10,8 @@ ghost use Rattle.rules.specs.Bus.{images};
 ghost use Rattle.rules.specs.Pages.{pageWords, fed};
 ghost use Rattle.admission_rules.specs.Admission.{admit};
 ghost use Rattle.admission_rules.specs.Safety.{Safe};
-ghost use Rattle.assembly_rules.specs.Assembly.{numberOf, told, assemblyWord, assembleWords};
+ghost use Rattle.assembly_rules.specs.Assembly.{told, assemblyWord, assembleWords};
 ghost use Rattle.assembly_rules.specs.Listing.{listingWord, listWords};
-
-fn number_of(e: Fault) -> u8
-    ensures { λ r. ⌜ r ≡ numberOf e ⌝ }
-{
-    match e {
-        Fault::NotALine => 30,
-        Fault::NoSuchMode => 31,
-        Fault::BranchTooFar => 32,
-        Fault::TooDeep => 33,
-        Fault::NoRoom => 34,
-    }
-}
 
 // "from bit 16 on", which leaves 48 bits for a count.
 fn told(number: u8, count: usize) -> u64
@@ -38,7 +25,7 @@ fn assembly_word(a: Assembly) -> u64
 {
     match a {
         Assembly::Assembled(count) => told(0, count),
-        Assembly::Refused(e, n) => told(number_of(e), n),
+        Assembly::Refused(e, n) => told(faults::number_of(e), n),
     }
 }
 
@@ -47,7 +34,7 @@ fn listing_word(l: Listing) -> u64
 {
     match l {
         Listing::Listed(count) => told(0, count),
-        Listing::Unlisted(e) => told(number_of(e), 0),
+        Listing::Unlisted(e) => told(faults::number_of(e), 0),
     }
 }
 

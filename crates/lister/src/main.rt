@@ -4,6 +4,7 @@ use assembly_rules::Listing;
 use libc::STDERR_FILENO;
 use libc::STDIN_FILENO;
 use libc::STDOUT_FILENO;
+use operands::Found;
 ghost use Prim.Native.Nat.{_≤_};
 ghost use lib.ListN.{length};
 
@@ -30,11 +31,15 @@ fn start_of(word: &[u8]) -> Start {
     if word.len() != 4 {
         return Start::Nowhere;
     }
-    let digits = operands::run(word, 0, 16, 0);
-    if digits.left != 0 {
-        return Start::Nowhere;
+    match operands::number(word, 0) {
+        Found::Value(start, four, _at) => {
+            if four {
+                return Start::At(start);
+            }
+            Start::Nowhere
+        }
+        Found::Nowhere => Start::Nowhere,
     }
-    Start::At(digits.value as u16)
 }
 
 fn told() -> Start {

@@ -123,7 +123,8 @@ pub fn next(s: &[u8], at: usize) -> Character
     }
 }
 
-fn number(s: &[u8], at: usize) -> Found
+// "A number is $ and one to four digits": the digits.
+pub fn number(s: &[u8], at: usize) -> Found
     requires { ⌜ at ≤ length (now s) ⌝ }
     ensures { λ r. ⌜ Finds (number (drop at (now (s .entry)))) (now (s .entry)) r ⌝ }
 {

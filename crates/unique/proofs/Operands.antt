@@ -7,7 +7,10 @@ use lib.ListN.{length, drop, length-drop}
 use Rattle.assembly_rules.specs.Characters.{Run, Next}
 use Rattle.operands.specs.declared.Word.{Word}
 use Rattle.operands.specs.declared.Character.{Character}
-use Rattle.operands.specs.Places.{Ran, Ahead}
+use Rattle.assembly_rules.specs.Sums.{Read}
+use Rattle.operands.specs.declared.Found.{Found}
+use Rattle.operands.specs.declared.Found.the-variants.{Value, Nowhere}
+use Rattle.operands.specs.Places.{Ran, Ahead, Finds}
 use Rattle.operands.proofs as its
 use Rattle.unique.proofs.General.{Unique, answer}
 
@@ -31,6 +34,19 @@ ahead {s = s} {c = c} {d = d} p q j =
       at = place-once s (c .at) (d .at) (p .within) (q .within) (ap (λ (n : Next). n .rest) e) j;
     }
 
+found-once : (r : Read) (s : List ℕ) (f g : Found) → Finds r s f → Finds r s g → f ≡ g
+found-once r s (Value v four p) (Value w five q) x y =
+    let e = sym (x .same) ∙ y .same in
+    let value-same : v ≡ w = cc in
+    let four-same : four ≡ five = cc in
+    let rest-same : drop p s ≡ drop q s = cc in
+    rw (value-same, four-same, place-once s p q (x .within) (y .within) rest-same)
+found-once r s (Value v four p) Nowhere x y =
+    let e = sym (x .same) ∙ y .same in let z : _≡_ {A = ℕ} 0 1 = cc in absurd (omega (arith, z))
+found-once r s Nowhere (Value w five q) x y =
+    let e = sym (x .same) ∙ y .same in let z : _≡_ {A = ℕ} 0 1 = cc in absurd (omega (arith, z))
+found-once r s Nowhere Nowhere x y = refl
+
 pub run : Unique its.run.Kinds.ps its.run.Kinds.r its.run.Reads.Post
 run κs a x y p q = answer refl (ran p q) refl
 
@@ -42,3 +58,6 @@ next κs a x y p q = answer refl (ahead p q) refl
 
 pub operand : Unique its.operand.Kinds.ps its.operand.Kinds.r its.operand.Reads.Post
 operand κs a x y = answer refl
+
+pub number : Unique its.number.Kinds.ps its.number.Kinds.r its.number.Reads.Post
+number κs a x y p q = answer refl (found-once _ _ (x .0) (y .0) p q) refl
