@@ -13,7 +13,7 @@ use Rattle.assembly_rules.specs.declared.Fault.{Fault}
 use Rattle.assembly_rules.specs.declared.Fault.the-variants.{NotALine, NoSuchMode, BranchTooFar, TooDeep}
 use Rattle.assembly_rules.specs.declared.Line.{Line}
 use Rattle.assembly_rules.specs.declared.Line.the-variants.{Nothing, One, Two, Three, Wrong}
-use Rattle.assembly_rules.specs.Characters.{Run, run, skip, Next, next}
+use Rattle.assembly_rules.specs.Characters.{Run, run, skip}
 use Rattle.assembly_rules.specs.Sums.{deepest}
 use Rattle.assembly_rules.specs.Operands.{operand}
 use Rattle.assembly_rules.specs.Mnemonics.{byteName, opcodeOf, has, isMnemonic}
@@ -91,15 +91,25 @@ valued (operand.Indirect v) = Wrong NotALine
 valued operand.NotOne = Wrong NotALine
 
 -- "a line with nothing else makes no byte"
-abbrev pub blank : List ℕ → Line
-blank s = if eqb (next s .character) 256 then Nothing else Wrong NotALine
+abbrev pub blank : Operand → Line
+blank operand.Nothing = Nothing
+blank operand.Accumulator = Wrong NotALine
+blank (operand.Immediate v) = Wrong NotALine
+blank (operand.Address v four) = Wrong NotALine
+blank (operand.AddressX v four) = Wrong NotALine
+blank (operand.AddressY v four) = Wrong NotALine
+blank (operand.IndirectX v) = Wrong NotALine
+blank (operand.IndirectY v) = Wrong NotALine
+blank (operand.Indirect v) = Wrong NotALine
+blank operand.NotOne = Wrong NotALine
 
 -- A name and an operand. Four characters of a name are looked at: none has more, and no operand begins with a fifth. 1 is no name at all.
 abbrev pub named : ℕ → Run → Line
 named a w =
-    if eqb (w .value) 1 then blank (w .rest)
-    else if eqb (w .value) byteName then valued (operand (w .rest))
-    else if isMnemonic (w .value) then coded a (w .value) (operand (w .rest)) else Wrong NotALine
+    let o = operand (w .rest) in
+    if eqb (w .value) 1 then blank o
+    else if eqb (w .value) byteName then valued o
+    else if isMnemonic (w .value) then coded a (w .value) o else Wrong NotALine
 
 abbrev pub written : ℕ → List ℕ → Line
 written a s = named a (run 36 4 1 (skip s))

@@ -182,25 +182,38 @@ fn valued(o: Operand) -> Line
     }
 }
 
+// Where there is no name.
+fn blank(o: Operand) -> Line
+    ensures { λ r. ⌜ r ≡ blank o ⌝ }
+{
+    match o {
+        Operand::Nothing => Line::Nothing,
+        Operand::Accumulator => Line::Wrong(Fault::NotALine),
+        Operand::Immediate(_v) => Line::Wrong(Fault::NotALine),
+        Operand::Address(_v, _four) => Line::Wrong(Fault::NotALine),
+        Operand::AddressX(_v, _four) => Line::Wrong(Fault::NotALine),
+        Operand::AddressY(_v, _four) => Line::Wrong(Fault::NotALine),
+        Operand::IndirectX(_v) => Line::Wrong(Fault::NotALine),
+        Operand::IndirectY(_v) => Line::Wrong(Fault::NotALine),
+        Operand::Indirect(_v) => Line::Wrong(Fault::NotALine),
+        Operand::NotOne => Line::Wrong(Fault::NotALine),
+    }
+}
+
 fn written(s: &[u8], address: u16) -> Line
     ensures { λ r. ⌜ r ≡ written address (now (s .entry)) ⌝ }
 {
-    let begin = operands::skip(s, 0);
-    let w = operands::run(s, begin, 36, 1);
+    let w = operands::name(s);
     let name = w.value;
-    let at = w.at;
+    let o = operands::operand(s, w.at);
     if name == 1 {
-        let n = operands::next(s, at);
-        if n.character == 256 {
-            return Line::Nothing;
-        }
-        return Line::Wrong(Fault::NotALine);
+        return blank(o);
     }
     if name == 2237954 {
-        return valued(operands::operand(s, at));
+        return valued(o);
     }
     if mnemonics::is_mnemonic(name) {
-        return coded(address, name, operands::operand(s, at));
+        return coded(address, name, o);
     }
     Line::Wrong(Fault::NotALine)
 }

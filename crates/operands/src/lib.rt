@@ -18,9 +18,9 @@ pub struct Word {
 }
 
 // A character, or 256 for the end, and the place behind it.
-pub struct Character {
-    pub character: u16,
-    pub at: usize,
+struct Character {
+    character: u16,
+    at: usize,
 }
 
 // A value, whether it is written with four digits alone, and the place behind it.
@@ -60,7 +60,7 @@ fn place(c: u16) -> u8
 }
 
 // At most four characters, as a number.
-pub fn run(s: &[u8], at: usize, base: u8, n: u8) -> Word
+fn run(s: &[u8], at: usize, base: u8, n: u8) -> Word
     requires { ⌜ (at ≤ length (now s)) × (base ≤ 36) × (n ≤ 1) ⌝ }
     ensures { λ r. ⌜ Ran (run base 4 n (drop at (now (s .entry)))) (now (s .entry)) r ⌝ }
 {
@@ -91,7 +91,7 @@ fn is_space(c: u8) -> bool
     c == b'\t'
 }
 
-pub fn skip(s: &[u8], at: usize) -> usize
+fn skip(s: &[u8], at: usize) -> usize
     requires { ⌜ at ≤ length (now s) ⌝ }
     ensures { λ r. ⌜ (skip (drop at (now (s .entry))) ≡ drop r (now (s .entry))) × (r ≤ length (now (s .entry))) ⌝ }
 {
@@ -106,7 +106,7 @@ pub fn skip(s: &[u8], at: usize) -> usize
     p
 }
 
-pub fn next(s: &[u8], at: usize) -> Character
+fn next(s: &[u8], at: usize) -> Character
     requires { ⌜ at ≤ length (now s) ⌝ }
     ensures { λ r. ⌜ Ahead (next (drop at (now (s .entry)))) (now (s .entry)) r ⌝ }
 {
@@ -121,6 +121,14 @@ pub fn next(s: &[u8], at: usize) -> Character
         character: 256,
         at: p,
     }
+}
+
+// A line's first word, as a number: its name, where it has one.
+pub fn name(s: &[u8]) -> Word
+    ensures { λ r. ⌜ Ran (run 36 4 1 (skip (now (s .entry)))) (now (s .entry)) r ⌝ }
+{
+    let begin = skip(s, 0);
+    run(s, begin, 36, 1)
 }
 
 // "A number is $ and one to four digits": the digits.

@@ -4,13 +4,12 @@ use native.Mathlib.Omega.{arith}
 use mathlib.Core.Path.{_≡_, refl, sym, ap, _∙_}
 use mathlib.Core.List.{List}
 use lib.ListN.{length, drop, length-drop}
-use Rattle.assembly_rules.specs.Characters.{Run, Next}
+use Rattle.assembly_rules.specs.Characters.{Run}
 use Rattle.operands.specs.declared.Word.{Word}
-use Rattle.operands.specs.declared.Character.{Character}
 use Rattle.assembly_rules.specs.Sums.{Read}
 use Rattle.operands.specs.declared.Found.{Found}
 use Rattle.operands.specs.declared.Found.the-variants.{Value, Nowhere}
-use Rattle.operands.specs.Places.{Ran, Ahead, Finds}
+use Rattle.operands.specs.Places.{Ran, Finds}
 use Rattle.operands.proofs as its
 use Rattle.unique.proofs.General.{Unique, answer}
 
@@ -26,14 +25,6 @@ ran {s = s} {v = v} {w = w} p q j =
       at = place-once s (v .at) (w .at) (p .within) (q .within) (ap (λ (r : Run). r .rest) e) j;
     }
 
-ahead : {n : Next} {s : List ℕ} {c d : Character} → Ahead n s c → Ahead n s d → c ≡ d
-ahead {s = s} {c = c} {d = d} p q j =
-    let e = sym (p .same) ∙ q .same in
-    record {
-      character = ap (λ (n : Next). n .character) e j;
-      at = place-once s (c .at) (d .at) (p .within) (q .within) (ap (λ (n : Next). n .rest) e) j;
-    }
-
 found-once : (r : Read) (s : List ℕ) (f g : Found) → Finds r s f → Finds r s g → f ≡ g
 found-once r s (Value v four p) (Value w five q) x y =
     let e = sym (x .same) ∙ y .same in
@@ -47,14 +38,8 @@ found-once r s Nowhere (Value w five q) x y =
     let e = sym (x .same) ∙ y .same in let z : _≡_ {A = ℕ} 0 1 = cc in absurd (omega (arith, z))
 found-once r s Nowhere Nowhere x y = refl
 
-pub run : Unique its.run.Kinds.ps its.run.Kinds.r its.run.Reads.Post
-run κs a x y p q = answer refl (ran p q) refl
-
-pub skip : Unique its.skip.Kinds.ps its.skip.Kinds.r its.skip.Reads.Post
-skip κs a x y p q = answer refl (place-once _ _ _ (p .1) (q .1) (sym (p .0) ∙ q .0)) refl
-
-pub next : Unique its.next.Kinds.ps its.next.Kinds.r its.next.Reads.Post
-next κs a x y p q = answer refl (ahead p q) refl
+pub name : Unique its.name.Kinds.ps its.name.Kinds.r its.name.Reads.Post
+name κs a x y p q = answer refl (ran p q) refl
 
 pub operand : Unique its.operand.Kinds.ps its.operand.Kinds.r its.operand.Reads.Post
 operand κs a x y = answer refl
