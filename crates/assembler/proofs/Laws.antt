@@ -1,27 +1,19 @@
 -- Lines, one after the other: how a text is cut, and what a pass has made so far.
-use Prim.Native.Nat.{ℕ, zero, suc, _+_, _-_, _≤_, _<_}
+use Prim.Native.Nat.{ℕ, suc, _+_, _-_, _≤_, _<_}
 use native.Mathlib.Numerals.{add-one}
 use native.Mathlib.Omega.{arith}
 use mathlib.Core.Path.{_≡_, refl, sym, ap, _∙_}
 use mathlib.Core.Bool.{Bool, true, false, _&&_, false≢true}
-use mathlib.Core.List.{List, [], _∷_, _++_, append-nil, append-assoc}
-use borrow.Author.Tests.{eq-eqb, ne-eqb, lt-ltb, le-ltb, le-leb}
-use lib.Dec.{eqb, leb}
-use lib.ListN.{length, take, drop, set, length-append, length-drop}
-use lib.Seq.{sets, sets-eq, take-suc, take-all, drop-drop, getD-drop, drop-append-add, take-append-seam}
+use mathlib.Core.List.{List, [], _∷_, _++_, append-nil}
+use borrow.Author.Tests.{eq-eqb, ne-eqb}
+use lib.Dec.{eqb}
+use lib.ListN.{length, take, drop, set, length-drop}
+use lib.Seq.{sets, take-suc, take-all, drop-drop, getD-drop}
 use Rattle.rules.specs.Basics.{if_then_else_, at}
-use Rattle.rules.specs.Step.{front}
-use Rattle.laws.proofs.Lists.{sets-append}
 use Rattle.laws.proofs.Tests.{if-case, and-right}
 use Rattle.operands.proofs.Laws.{none-left, one-left}
-use Rattle.assembly_rules.specs.declared.Fault.{Fault}
-use Rattle.assembly_rules.specs.declared.Fault.the-variants.{NoRoom}
-use Rattle.assembly_rules.specs.declared.Line.{Line}
-use Rattle.assembly_rules.specs.declared.Line.the-variants.{Nothing, One, Two, Three, Wrong}
-use Rattle.assembly_rules.specs.Assembly.{beginsWithLf, onto, linesOf, Made, made, wrong, fitted, judged}
-use Rattle.assembler.specs.declared.Step.{Step}
-use Rattle.assembler.specs.declared.Step.the-variants.{Stop, Go}
-use Rattle.assembler.specs.Passes.{ending, bytesOf, fittedTo, stepTo}
+use Rattle.assembly_rules.specs.Assembly.{beginsWithLf, onto, linesOf}
+use Rattle.assembler.specs.Passes.{ending}
 
 -- two and three bytes in a row
 pub sets-two : (l : List ℕ) (p a b : ℕ) → set (set l p a) (p + 1) b ≡ sets l p (a ∷ b ∷ [])

@@ -3,12 +3,12 @@ use Prim.Native.Nat.{ℕ, suc, _+_, _-_, _≤_, _<_}
 use native.Mathlib.Numerals.{add-one}
 use native.Mathlib.Omega.{arith}
 use mathlib.Core.Path.{_≡_, refl, sym, ap, _∙_}
-use mathlib.Core.Bool.{Bool, true, false, false≢true}
+use mathlib.Core.Bool.{Bool, true, false}
 use mathlib.Core.List.{List, [], _∷_, _++_}
 use borrow.Author.Tests.{leb-true, le-leb, lt-leb}
 use lib.Dec.{leb}
 use lib.ListN.{length, take, drop, length-append, length-drop}
-use lib.Seq.{sets, sets-eq, length-sets, drop-drop, drop-append-add, take-append-seam}
+use lib.Seq.{sets, sets-eq, drop-drop, drop-append-add, take-append-seam}
 use Rattle.rules.specs.Basics.{if_then_else_, sum16}
 use Rattle.rules.specs.Step.{front}
 use Rattle.operands.proofs.Laws.{none-left}
@@ -19,7 +19,6 @@ use Rattle.assembly_rules.specs.declared.Assembly.{Assembly}
 use Rattle.assembly_rules.specs.declared.Assembly.the-variants.{Assembled, Refused}
 use Rattle.assembly_rules.specs.Lines.{lineOf}
 use Rattle.assembly_rules.specs.Assembly.{linesOf, Made, made, wrong, fitted, judged, lines, assembled, answer, left}
-use Rattle.assembler.specs.declared.Step.{Step}
 use Rattle.assembler.specs.declared.Step.the-variants.{Stop, Go}
 use Rattle.assembler.specs.declared.Bounds.{Bounds}
 use Rattle.assembler.specs.Passes.{bytesOf, fittedTo, stepTo, Passes}

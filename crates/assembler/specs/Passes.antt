@@ -4,10 +4,8 @@ use mathlib.Core.Path.{_≡_}
 use mathlib.Core.Bool.{Bool, true, false, _&&_}
 use mathlib.Core.List.{List, [], _∷_}
 use lib.Dec.{leb, eqb}
-use lib.ListN.{length}
 use Rattle.rules.specs.Basics.{if_then_else_}
 use Rattle.rules.specs.Step.{front}
-use Rattle.assembly_rules.specs.declared.Fault.{Fault}
 use Rattle.assembly_rules.specs.declared.Fault.the-variants.{NoRoom}
 use Rattle.assembly_rules.specs.declared.Line.{Line}
 use Rattle.assembly_rules.specs.declared.Line.the-variants.{Nothing, One, Two, Three, Wrong}

@@ -1,21 +1,17 @@
 -- Text of plain characters: no control, no comment, no square bracket. It is one line, and it is its content.
-use Prim.Native.Nat.{ℕ, zero, suc, _+_, _-_, _*_, _/_, _%_, _≤_, _<_}
-use native.Mathlib.Omega.{arith}
-use mathlib.Core.Path.{_≡_, refl, sym, ap, _∙_}
-use mathlib.Core.Bool.{Bool, true, false, _&&_, _||_, not}
+use Prim.Native.Nat.{ℕ, _+_, _-_, _<_}
+use mathlib.Core.Path.{_≡_, refl, sym, ap}
+use mathlib.Core.Bool.{Bool, true, false, _&&_, not}
 use mathlib.Core.List.{List, [], _∷_, _++_}
-use borrow.Author.Tests.{eqb-true, ltb-true, ne-eqb, lt-ltb, le-ltb, le-leb}
-use lib.Dec.{ltb, leb, eqb}
+use borrow.Author.Tests.{eqb-true}
+use lib.Dec.{eqb}
 use Rattle.rules.specs.Basics.{if_then_else_, all}
 use Rattle.rules.specs.Text.{digit}
 use Rattle.laws.proofs.Tests.{and-left, and-right, all-at}
 use Rattle.assembly_rules.proofs.Cases.{texts, faults, listings}
-use Rattle.assembly_rules.specs.declared.Line.{Line}
-use Rattle.assembly_rules.specs.Characters.{place, isSpace, skip}
-use Rattle.assembly_rules.specs.Sums.{deepest}
-use Rattle.assembly_rules.specs.Operands.{operand}
-use Rattle.assembly_rules.specs.Lines.{content, opened, tooDeep, written, lineOf}
-use Rattle.assembly_rules.specs.Assembly.{beginsWithLf, onto, linesOf}
+use Rattle.assembly_rules.specs.Characters.{place, isSpace}
+use Rattle.assembly_rules.specs.Lines.{content, tooDeep, written, lineOf}
+use Rattle.assembly_rules.specs.Assembly.{onto, linesOf}
 
 pub record IsPlain (c : ℕ) : Type 0 where
   pub lf : eqb c 10 ≡ false

@@ -5,7 +5,7 @@ use native.Mathlib.Decide.{decLe}
 use mathlib.Core.Path.{_≡_, refl, sym, ap, _∙_}
 use mathlib.Core.Bool.{Bool, true, false, _&&_, _||_, not, false≢true}
 use mathlib.Core.List.{List, [], _∷_, _++_, map, append-nil, append-assoc}
-use borrow.Author.Tests.{eqb-true, leb-true, lt-ltb, le-ltb, le-leb, ne-eqb}
+use borrow.Author.Tests.{eqb-true, leb-true, lt-ltb, le-ltb, le-leb}
 use lib.Dec.{ltb, leb, eqb}
 use lib.ListN.{length, take, drop, length-append, length-drop, take-append-drop}
 use lib.Seq.{getD-drop, length-take-le, take-append-seam}
@@ -27,7 +27,7 @@ use Rattle.assembly_rules.specs.Characters.{said, run, skip}
 use Rattle.assembly_rules.specs.Operands.{operand}
 use Rattle.assembly_rules.specs.Mnemonics.{byteName, nameOf, shapeOf, numbered, opcodeOf, has, isMnemonic}
 use Rattle.assembly_rules.specs.Lines.{branchLine, coded, valued, written, lineOf}
-use Rattle.assembly_rules.specs.Assembly.{linesOf, Made, made, wrong, fitted, judged, lines, assembled, told, Words, assembleWords}
+use Rattle.assembly_rules.specs.Assembly.{linesOf, Made, made, wrong, fitted, judged, lines, assembled, told, assembleWords}
 use Rattle.assembly_rules.specs.Listing.{lettersOf, operandText, Listed, instructionLine, lineAt, textOf, listWords}
 use Rattle.assembly_rules.proofs.Listings.{line-size, text-first, text-none}
 use Rattle.assembly_rules.proofs.Plain.{IsPlain, Plain, plain-append, all-plain, allPlain, line-plain, lines-plain}

@@ -1,11 +1,10 @@
 -- What is listed is read again: digits, and an operand in each of its shapes.
 use Prim.Native.Nat.{ℕ, _+_, _-_, _*_, _/_, _%_, _<_}
 use native.Mathlib.Omega.{arith}
-use mathlib.Core.Path.{_≡_, refl, sym, ap, _∙_}
-use mathlib.Core.Bool.{Bool, true, false}
-use mathlib.Core.List.{List, [], _∷_, _++_}
+use mathlib.Core.Path.{_≡_, refl, ap, _∙_}
+use mathlib.Core.Bool.{true, false}
+use mathlib.Core.List.{List, [], _∷_}
 use borrow.Author.Tests.{lt-ltb}
-use lib.Dec.{ltb, eqb}
 use Rattle.rules.specs.Basics.{sum16}
 use Rattle.rules.specs.Operations.{target}
 use Rattle.rules.specs.Text.{digit}
@@ -13,8 +12,8 @@ use Rattle.assembly_rules.specs.declared.Shape.{Shape}
 use Rattle.assembly_rules.specs.declared.Shape.the-variants as shape
 use Rattle.assembly_rules.specs.declared.Operand.{Operand}
 use Rattle.assembly_rules.specs.declared.Operand.the-variants as operand
-use Rattle.assembly_rules.specs.Characters.{said, place, Run, run}
-use Rattle.assembly_rules.specs.Sums.{Read, value, number, term}
+use Rattle.assembly_rules.specs.Characters.{said, run}
+use Rattle.assembly_rules.specs.Sums.{value, number, term}
 use Rattle.assembly_rules.specs.Operands.{operand}
 use Rattle.assembly_rules.specs.Listing.{operandText}
 use Rattle.assembly_rules.proofs.Plain.{Digit, digit-known}

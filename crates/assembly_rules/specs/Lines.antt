@@ -9,7 +9,6 @@ use Rattle.assembly_rules.specs.declared.Shape.{Shape}
 use Rattle.assembly_rules.specs.declared.Shape.the-variants as shape
 use Rattle.assembly_rules.specs.declared.Operand.{Operand}
 use Rattle.assembly_rules.specs.declared.Operand.the-variants as operand
-use Rattle.assembly_rules.specs.declared.Fault.{Fault}
 use Rattle.assembly_rules.specs.declared.Fault.the-variants.{NotALine, NoSuchMode, BranchTooFar, TooDeep}
 use Rattle.assembly_rules.specs.declared.Line.{Line}
 use Rattle.assembly_rules.specs.declared.Line.the-variants.{Nothing, One, Two, Three, Wrong}

@@ -1,14 +1,13 @@
 -- What bytes are listed as.
 use Prim.Native.Nat.{ℕ, zero, suc, _/_, _%_}
 use Prim.Native.Char.{code}
-use mathlib.Core.Bool.{Bool, _&&_}
+use mathlib.Core.Bool.{_&&_}
 use mathlib.Core.List.{List, [], _∷_, _++_}
 use lib.Dec.{leb}
 use lib.ListN.{length, drop}
 use Rattle.rules.specs.declared.Instruction.{Instruction}
-use Rattle.rules.specs.declared.Instruction.the-variants.{Undefined}
 use Rattle.rules.specs.Basics.{if_then_else_, at, sum16}
-use Rattle.rules.specs.Opcodes.{Entry, decode, sizeOf, isDefined, instructionOf}
+use Rattle.rules.specs.Opcodes.{decode, sizeOf, isDefined, instructionOf}
 use Rattle.rules.specs.Operations.{target}
 use Rattle.rules.specs.Step.{front}
 use Rattle.rules.specs.Text.{digit, hex}

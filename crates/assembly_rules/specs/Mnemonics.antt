@@ -1,6 +1,6 @@
 -- "the 56 mnemonics, modes written as in the data sheets": the name and the shape of each instruction of document 01, and the opcode that
 -- has them.
-use Prim.Native.Nat.{ℕ, _+_, _*_, _/_, _%_}
+use Prim.Native.Nat.{ℕ, _+_, _*_}
 use Prim.Native.Char.{code}
 use Prim.Native.String.{String, [] as none, _∷_ as _then_}
 use mathlib.Core.Bool.{Bool, false, _&&_, _||_}

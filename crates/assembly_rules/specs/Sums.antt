@@ -7,7 +7,7 @@ use mathlib.Core.List.{List}
 use lib.Dec.{eqb}
 use lib.ListN.{length}
 use Rattle.rules.specs.Basics.{if_then_else_}
-use Rattle.assembly_rules.specs.Characters.{Run, run, Next, next}
+use Rattle.assembly_rules.specs.Characters.{Run, run, next}
 
 -- What a reader finds at the front of a text: a value, whether it is a number "written with four digits alone", and what follows; or none.
 pub data Read : Type 0 where

@@ -1,7 +1,7 @@
 -- What the readers answer: places in a text, where the definitions have what is left of it.
 use Prim.Native.Nat.{ℕ, _≤_}
 use mathlib.Core.Path.{_≡_}
-use mathlib.Core.Bool.{Bool, false}
+use mathlib.Core.Bool.{false}
 use mathlib.Core.List.{List}
 use lib.ListN.{length, drop}
 use Rattle.assembly_rules.specs.Characters as characters

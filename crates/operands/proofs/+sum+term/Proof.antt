@@ -1,11 +1,10 @@
-use Prim.Native.Nat.{ℕ, _+_, _*_, _<_, _≤_}
+use Prim.Native.Nat.{ℕ, _+_, _*_, _<_}
 use native.Mathlib.Omega.{arith}
-use mathlib.Core.Path.{_≡_, refl, sym, ap, _∙_}
+use mathlib.Core.Path.{sym, _∙_}
 use borrow.Author.Needs.{needs}
 use borrow.Fn.Kinds.{In}
 use borrow.Fn.PlainCycle.{Measures, is, falls, and}
 use denote.Ref.{now}
-use lib.ListN.{length, length-drop}
 use Rattle.operands.proofs.Summed.{Summing, sum-first, sum-more, sum-last, sum-none, sum-over, term-number, term-other, term-deep}
 use Rattle.operands.proofs.Summed.{term-bracket}
 use Rattle.operands.proofs.sum.Reads as sum

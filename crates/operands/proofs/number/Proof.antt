@@ -1,11 +1,8 @@
-use Prim.Native.Nat.{ℕ, _<_}
 use native.Mathlib.Omega.{arith}
-use mathlib.Core.Path.{ap}
 use borrow.Author.Needs.{needs}
 use borrow.Author.Tests.{eq-eqb, ne-eqb}
 use denote.Ref.{now}
 use lib.ListN.{drop}
-use Rattle.assembly_rules.specs.Sums.{digits}
 use Rattle.operands.proofs.Laws.{digits-fit}
 use Rattle.operands.proofs.number.Statement.{statement}
 use Rattle.operands.proofs.number.Tie as tie
