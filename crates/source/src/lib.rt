@@ -98,7 +98,7 @@ fn whole_at(bytes: &[u8], i: usize) -> Instruction
         behind(bytes, i, 1),
         behind(bytes, i, 2),
     );
-    if size_of(mnemonics::shape_of(found)) <= bytes.len() - i {
+    if size_of(names::shape_of(found)) <= bytes.len() - i {
         return found;
     }
     Instruction::Undefined
@@ -119,9 +119,9 @@ fn measure_at(bytes: &[u8], i: usize) -> Extent
     ensures { λ r. ⌜ Measures (lineAt 0 (drop i (now (bytes .entry)))) (r .count) (r .size) ⌝ }
 {
     let found = whole_at(bytes, i);
-    let shape = mnemonics::shape_of(found);
+    let shape = names::shape_of(found);
     Extent {
-        count: count_with(mnemonics::name_of(found), shape),
+        count: count_with(names::name_of(found), shape),
         size: size_of(shape),
     }
 }
@@ -279,11 +279,11 @@ fn byte_line(v: u8) -> Spelt
 fn line_of(found: Instruction, a: u16, v: u8, low: u8, high: u8) -> Spelt
     ensures { λ r. ⌜ Spells (textBy a v low high found) (r .text) (r .count) ⌝ }
 {
-    let name = mnemonics::name_of(found);
+    let name = names::name_of(found);
     if name == 0 {
         return byte_line(v);
     }
-    instruction_line(a, low, high, name, mnemonics::shape_of(found))
+    instruction_line(a, low, high, name, names::shape_of(found))
 }
 
 fn line_at(bytes: &[u8], i: usize, start: u16) -> Line
@@ -303,7 +303,7 @@ fn line_at(bytes: &[u8], i: usize, start: u16) -> Line
     Line {
         text,
         count: spelt.count,
-        size: size_of(mnemonics::shape_of(found)),
+        size: size_of(names::shape_of(found)),
     }
 }
 

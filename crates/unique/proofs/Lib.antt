@@ -18,6 +18,7 @@ pub mod Jumps
 pub mod Lines
 pub mod Listing
 pub mod Mnemonics
+pub mod Names
 pub mod Faults
 pub mod Operands
 pub mod Operations
