@@ -1,5 +1,7 @@
 // Addresses and their two bytes, an address in its page, where a branch goes, places in the stack's page.
 
+#![tactic(auto)]
+
 ghost use Rattle.std.specs.Prelude.{◌≡◌};
 ghost use Rattle.rules.specs.Basics.{address};
 ghost use Rattle.rules.specs.Addressing.{old_page};

@@ -1,5 +1,7 @@
 // The judgement of an image with its map: "it accepts exactly when all the rules above hold".
 
+#![tactic(auto)]
+
 mod instruction_rules;
 mod marks;
 

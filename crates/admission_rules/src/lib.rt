@@ -1,9 +1,11 @@
 // The types of document 01's admission; no code. What they mean stands in specs/, with the rules of the map and demand 3.
 
+#![tactic(auto)]
+
 use rules::Refusal;
 
 // A record of the map.
-#[derive(Drop)]
+#[derive(Clone, Copy)]
 pub struct Mark {
     pub address: u16,
     pub kind: u8,
@@ -12,7 +14,7 @@ pub struct Mark {
 }
 
 // What is asked of a successor: to be marked with this kind and height, and a need that with `more` is at most `limit`.
-#[derive(Drop)]
+#[derive(Clone, Copy)]
 pub struct Successor {
     pub address: u16,
     pub kind: u8,
@@ -22,7 +24,7 @@ pub struct Successor {
 }
 
 // What the rules of a record come to: one of 13 to 15 is broken, or (16) the first so many of two successors are asked for.
-#[derive(Drop)]
+#[derive(Clone, Copy)]
 pub enum Rules {
     Broken(Refusal),
     Leads(u8, Successor, Successor),

@@ -1,5 +1,7 @@
 // Shifts and steps by one.
 
+#![tactic(auto)]
+
 ghost use Rattle.std.specs.Prelude.{◌≡◌};
 ghost use Rattle.rules.specs.Arithmetic.{shifted, by_one, changed};
 

@@ -1,5 +1,7 @@
 // The assembler: a text from standard input, its bytes to standard output. The argument is the address of the first one.
 
+#![tactic(auto)]
+
 ghost use Rattle.std.specs.Prelude.{◌≤◌, length};
 
 use assembly_rules::{Assembly, Fault};
@@ -10,14 +12,14 @@ use operands::Found;
 const ROOM: usize = 4194305;
 
 // What the argument says.
-#[derive(Drop)]
+#[derive(Clone, Copy)]
 enum Start {
     At(u16),
     Nowhere,
 }
 
 // So many bytes were read, before the input ended or a read failed.
-#[derive(Drop)]
+#[derive(Clone, Copy)]
 struct Filled {
     count: usize,
     failed: bool,

@@ -1,5 +1,7 @@
 // What a text assembles to.
 
+#![tactic(auto)]
+
 ghost use Rattle.std.specs.Prelude.{◌≡◌, ◌+◌, ◌<◌, ◌≤◌, ◌∷◌, length, drop};
 ghost use Rattle.std.proofs.lemmas.List.Edits.{sets};
 ghost use Rattle.rules.specs.Basics.{if◌then◌else◌, sum16};
@@ -10,14 +12,14 @@ ghost use Rattle.assembler.specs.Cuts.{Cuts};
 use assembly_rules::{Assembly, Fault, Line};
 
 // Where a line's characters end, and where the next line begins.
-#[derive(Drop)]
+#[derive(Clone, Copy)]
 struct Bounds {
     end: usize,
     next: usize,
 }
 
 // So many bytes with those of the next line, or what is wrong with it.
-#[derive(Drop)]
+#[derive(Clone, Copy)]
 enum Step {
     Stop(Fault),
     Go(usize),

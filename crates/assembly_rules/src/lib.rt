@@ -1,7 +1,9 @@
 // The types of document 02's assembler and lister; no code. What they mean stands in specs/.
 
+#![tactic(auto)]
+
 // How an instruction's operand is written and coded: "modes written as in the data sheets".
-#[derive(Drop)]
+#[derive(Clone, Copy)]
 pub enum Shape {
     Implied,
     Accumulator,
@@ -19,7 +21,7 @@ pub enum Shape {
 }
 
 // What stands behind a name: nothing, A, or a sum with its signs. Of an address the bool says "written with four digits alone".
-#[derive(Drop)]
+#[derive(Clone, Copy)]
 pub enum Operand {
     Nothing,
     Accumulator,
@@ -34,7 +36,7 @@ pub enum Operand {
 }
 
 // Why a line, or a text, is refused.
-#[derive(Drop)]
+#[derive(Clone, Copy)]
 pub enum Fault {
     NotALine,
     NoSuchMode,
@@ -44,7 +46,7 @@ pub enum Fault {
 }
 
 // The bytes that a line makes, or what is wrong with it.
-#[derive(Drop)]
+#[derive(Clone, Copy)]
 pub enum Line {
     Nothing,
     One(u8),
@@ -54,14 +56,14 @@ pub enum Line {
 }
 
 // A text: how many bytes it makes, or what is wrong and in which line.
-#[derive(Drop)]
+#[derive(Clone, Copy)]
 pub enum Assembly {
     Assembled(usize),
     Refused(Fault, usize),
 }
 
 // Bytes: how many characters they are listed as.
-#[derive(Drop)]
+#[derive(Clone, Copy)]
 pub enum Listing {
     Listed(usize),
     Unlisted(Fault),

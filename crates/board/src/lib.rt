@@ -1,5 +1,7 @@
 // The step and the run, as a blade's board calls them: numbers and byte slices in, one word out.
 
+#![tactic(auto)]
+
 ghost use Rattle.std.specs.Prelude.{◌≡◌};
 ghost use Rattle.rules.specs.Answers.{step_word, run_words};
 ghost use Rattle.rules.specs.Bus.{images};

@@ -1,5 +1,7 @@
 // Digits and numbers, as they are printed, and text put into a buffer.
 
+#![tactic(auto)]
+
 ghost use Rattle.std.specs.Prelude.{◌+◌, ◌≤◌, ◌<◌, ◌≡◌, length};
 ghost use Rattle.std.proofs.lemmas.List.Edits.{sets};
 ghost use Rattle.rules.specs.Text.{digit, spaced, number_line, refusal_line};
@@ -8,7 +10,7 @@ ghost use Rattle.characters.specs.Shown.{Spells, Puts, Shows};
 use rules::Refusal;
 
 // A number in decimal: its digits stand at the end of the twenty bytes.
-#[derive(Drop)]
+#[derive(Clone, Copy)]
 struct Spelt {
     bytes: [u8; 20],
     from: usize,

@@ -1,5 +1,7 @@
 // What a step refuses before it looks at the program: "record not 16 bytes", "record malformed", "image length", lines and pins.
 
+#![tactic(auto)]
+
 ghost use Rattle.std.specs.Prelude.{◌≡◌};
 ghost use Rattle.rules.specs.Step.{image_fits, lines_fit};
 ghost use Rattle.checks.specs.Checks.{fit_of};
@@ -7,7 +9,7 @@ ghost use Rattle.checks.specs.Checks.{fit_of};
 use rules::Refusal;
 
 // Whether a record and an image fit, or why not.
-#[derive(Drop)]
+#[derive(Clone, Copy)]
 pub enum Checked {
     Fit,
     Refused(Refusal),

@@ -16,6 +16,8 @@
 //   control        rows 0 to 3 of group 0: BRK, JSR, RTI, RTS in column 0, "BIT (z, a)", JMP a, JMP (a) in column 3
 //   at_1a          9A and BA alone: TXS, TSX
 
+#![tactic(auto)]
+
 ghost use Rattle.std.specs.Prelude.{◌≡◌, eqb};
 ghost use Rattle.rules.specs.declared.Reading.TheVariants.{Cpx, Cpy};
 ghost use Rattle.rules.specs.Basics.{if◌then◌else◌};

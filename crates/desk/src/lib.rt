@@ -1,5 +1,7 @@
 // The functions that are called at a desk: numbers and byte slices in, one word out. A board that does not call them need not link them.
 
+#![tactic(auto)]
+
 ghost use Rattle.std.specs.Prelude.{◌≡◌};
 ghost use Rattle.rules.specs.Answers.{verdict_word};
 ghost use Rattle.rules.specs.Bus.{images};

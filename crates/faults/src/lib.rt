@@ -1,5 +1,7 @@
 // The numbers of the assembler's and the lister's refusals.
 
+#![tactic(auto)]
+
 ghost use Rattle.std.specs.Prelude.{◌≡◌};
 ghost use Rattle.assembly_rules.specs.Assembly.{number_of};
 

@@ -1,5 +1,7 @@
 // The flags, and the byte P that holds them.
 
+#![tactic(auto)]
+
 ghost use Rattle.std.specs.Prelude.{◌≤◌, ◌≡◌};
 ghost use Rattle.rules.specs.Basics.{bit, bit_of};
 ghost use Rattle.rules.specs.Flags.{flags_of, byte_of, byte_of4, nz, with_c, with_i};

@@ -1,5 +1,7 @@
 // Whether sixteen bytes are a record: "Anything else is malformed."
 
+#![tactic(auto)]
+
 ghost use Rattle.std.specs.Prelude.{◌≡◌, length};
 ghost use Rattle.rules.specs.Record.{well_formed, flags_fit};
 ghost use Rattle.formed.specs.Rest.{rest_fits};

@@ -1,5 +1,7 @@
 // What is done inside the processor, without a byte that was read.
 
+#![tactic(auto)]
+
 ghost use Rattle.std.specs.Prelude.{◌≡◌, ◌+◌, ◌%◌, length};
 ghost use Rattle.rules.specs.Operations.{inside};
 ghost use Rattle.state.specs.Makes.{Makes};

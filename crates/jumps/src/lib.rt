@@ -1,5 +1,7 @@
 // JSR and JMP (a). Each access has its number in the step.
 
+#![tactic(auto)]
+
 ghost use Rattle.std.specs.Prelude.{length};
 ghost use Rattle.rules.specs.declared.State.{State};
 ghost use Rattle.rules.specs.Cycles.{execution};

@@ -1,1 +1,3 @@
 // Laws about the definitions of rules; no code.
+
+#![tactic(auto)]

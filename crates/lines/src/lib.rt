@@ -1,5 +1,7 @@
 // What a line of text means: the bytes that it makes, or what is wrong with it.
 
+#![tactic(auto)]
+
 ghost use Rattle.std.specs.Prelude.{◌≡◌, ◌+◌, ◌-◌, ◌%◌, ◌<◌, ◌≤◌, length, take};
 ghost use Rattle.assembly_rules.specs.Lines.{content, opened, too_deep, alone_line, byte_line, word_line, address_line, branch_line, plain_line};
 ghost use Rattle.assembly_rules.specs.Lines.{coded, byte_value, valued, blank, named, written, line_of};

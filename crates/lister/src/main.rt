@@ -1,5 +1,7 @@
 // The lister: bytes from standard input, their text to standard output. The argument is the address of the first one.
 
+#![tactic(auto)]
+
 ghost use Rattle.std.specs.Prelude.{◌≤◌, length};
 
 use assembly_rules::Listing;
@@ -13,14 +15,14 @@ const ROOM: usize = 65537;
 const TEXT_ROOM: usize = 589824;
 
 // What the argument says.
-#[derive(Drop)]
+#[derive(Clone, Copy)]
 enum Start {
     At(u16),
     Nowhere,
 }
 
 // So many bytes were read, before the input ended or a read failed.
-#[derive(Drop)]
+#[derive(Clone, Copy)]
 struct Filled {
     count: usize,
     failed: bool,

@@ -1,5 +1,7 @@
 // The opcode of a name and a shape, and which names are mnemonics. A name is a number: its letters as digits of base 36, behind a 1.
 
+#![tactic(auto)]
+
 ghost use Rattle.std.specs.Prelude.{◌<◌, ◌≡◌};
 ghost use Rattle.assembly_rules.specs.Mnemonics.{opcode_of, is_mnemonic};
 ghost use Rattle.mnemonics.specs.Rows.{row_of, chosen, opcode_in};

@@ -1,5 +1,7 @@
 // The names and shapes of the instructions. A name is a number: its letters as digits of base 36, behind a 1.
 
+#![tactic(auto)]
+
 ghost use Rattle.std.specs.Prelude.{◌≡◌};
 ghost use Rattle.assembly_rules.specs.Mnemonics.{reading, storing, changing, condition, internal, stacking, name_of, mode_shape, shape_of};
 

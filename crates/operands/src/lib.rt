@@ -1,5 +1,7 @@
 // The words of a line: names, numbers, sums and operands, read from a place in its text.
 
+#![tactic(auto)]
+
 ghost use Rattle.std.specs.Prelude.{◌≡◌, ◌<◌, ◌≤◌, length, drop, ◌==◌};
 ghost use Rattle.assembly_rules.specs.Characters.{place, run, is_space, skip, next};
 ghost use Rattle.assembly_rules.specs.Sums.{is_sign, total_of, closed, number, term, sum_by};
@@ -9,7 +11,7 @@ ghost use Rattle.operands.specs.Places.{Ran, Ahead, found, Inside, Finds, joined
 use assembly_rules::Operand;
 
 // So many characters more could have been read; the next one is at a place.
-#[derive(Drop)]
+#[derive(Clone, Copy)]
 pub struct Word {
     pub value: u32,
     pub left: u8,
@@ -17,14 +19,14 @@ pub struct Word {
 }
 
 // A character, or 256 for the end, and the place behind it.
-#[derive(Drop)]
+#[derive(Clone, Copy)]
 struct Character {
     character: u16,
     at: usize,
 }
 
 // A value, whether it is written with four digits alone, and the place behind it.
-#[derive(Drop)]
+#[derive(Clone, Copy)]
 pub enum Found {
     Value(u16, bool, usize),
     Nowhere,

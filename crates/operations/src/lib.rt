@@ -1,5 +1,7 @@
 // What is done with a byte that was read.
 
+#![tactic(auto)]
+
 mod sums;
 
 ghost use Rattle.std.specs.Prelude.{◌≡◌, ◌<◌, length};

@@ -1,5 +1,7 @@
 // The page report. Lists of accesses come joined from standard input, or from the files that the arguments name, one list each.
 
+#![tactic(auto)]
+
 ghost use Rattle.std.specs.Prelude.{length, ◌≤◌};
 
 use libc::{STDIN_FILENO, STDOUT_FILENO};
@@ -8,14 +10,14 @@ use rules::{CountAnswer, Counting};
 const BLOCK: usize = 65536;
 
 // So many bytes were read, before the input ended or a read failed.
-#[derive(Drop)]
+#[derive(Clone, Copy)]
 struct Filled {
     count: usize,
     failed: bool,
 }
 
 // The counts with what was read, and whether there may be more of it.
-#[derive(Drop)]
+#[derive(Clone, Copy)]
 struct Taken {
     counts: Counting,
     more: bool,

@@ -20,14 +20,14 @@ use rules::{Mode, Purpose};
 use wiring::Wiring;
 
 // A byte that was found, and the accesses made so far.
-#[derive(Drop)]
+#[derive(Clone, Copy)]
 pub(crate) struct Loaded {
     pub value: u8,
     pub count: usize,
 }
 
 // An address that was found, and the accesses made so far.
-#[derive(Drop)]
+#[derive(Clone, Copy)]
 pub(crate) struct Spot {
     pub address: u16,
     pub count: usize,

@@ -1,5 +1,7 @@
 // One instruction: the bytes at PC are looked at, decoded, and what they say is performed, one line a bus cycle, in the order of time.
 
+#![tactic(auto)]
+
 mod addressing;
 
 ghost use Rattle.std.specs.Prelude.{◌≡◌, ℕ, ◌+◌, ◌/◌, ◌%◌, ◌<◌, ◌≤◌, true, false, List, length};
@@ -374,7 +376,7 @@ fn perform(
 }
 
 // The three bytes at PC.
-#[derive(Drop)]
+#[derive(Clone, Copy)]
 struct Bytes {
     pub opcode: u8,
     pub low: u8,

@@ -1,6 +1,8 @@
 // Reads on the bus of the three parts: one at a time, each listed at its cycle's place, and an address by two. The state is the
 // record's sixteen bytes.
 
+#![tactic(auto)]
+
 ghost use Rattle.std.specs.Prelude.{◌+◌, ◌-◌, ◌≤◌, ◌<◌, ◌≡◌, length};
 ghost use Rattle.std.specs.Int.Bits.{bit_and, bit_or};
 ghost use Rattle.rules.specs.declared.State.{State};

@@ -1,5 +1,7 @@
 // What the page report prints of the counts.
 
+#![tactic(auto)]
+
 ghost use Rattle.std.specs.Prelude.{◌+◌, ◌≤◌, ◌≡◌, [], ◌&&◌, eqb, length};
 ghost use Rattle.rules.specs.Basics.{if◌then◌else◌};
 ghost use Rattle.rules.specs.Text.{each};

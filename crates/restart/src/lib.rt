@@ -1,5 +1,7 @@
 // The restart file, as a blade's board calls for it: its reader, and where an append goes.
 
+#![tactic(auto)]
+
 ghost use Rattle.std.specs.Prelude.{◌≡◌};
 ghost use Rattle.rules.specs.Answers.{restart_word, append_word};
 ghost use Rattle.rules.specs.Restart.{restart, append_at};

@@ -1,7 +1,9 @@
 // The types of documents 01 and 02: the processor, its bus, its instructions and the answers. What they mean stands in specs/.
 
+#![tactic(auto)]
+
 // The six flags of P.
-#[derive(Drop)]
+#[derive(Clone, Copy)]
 pub struct Flags {
     pub n: bool,
     pub v: bool,
@@ -12,14 +14,14 @@ pub struct Flags {
 }
 
 // A byte, and the flags with it.
-#[derive(Drop)]
+#[derive(Clone, Copy)]
 pub struct Result {
     pub value: u8,
     pub flags: Flags,
 }
 
 // The processor's registers.
-#[derive(Drop)]
+#[derive(Clone, Copy)]
 pub struct Cpu {
     pub a: u8,
     pub x: u8,
@@ -31,7 +33,7 @@ pub struct Cpu {
 
 // The bus beside the image: the part (2, 8 or 9), its registers at 0000 and 0001, the pins of a 6508, the protected pages c
 // and the banks k of the image.
-#[derive(Drop)]
+#[derive(Clone, Copy)]
 pub struct Bus {
     pub part: u8,
     pub first: u8,
@@ -42,7 +44,7 @@ pub struct Bus {
 }
 
 // What a state record holds, with the bus's pins and banks, which come from beside it.
-#[derive(Drop)]
+#[derive(Clone, Copy)]
 pub struct State {
     pub cpu: Cpu,
     pub bus: Bus,
@@ -52,7 +54,7 @@ pub struct State {
 
 // An addressing mode with its operand: a byte, or an address, low byte first. IndirectBankY is (z),Y whose data lies in a 6509's indirect
 // bank.
-#[derive(Drop)]
+#[derive(Clone, Copy)]
 pub enum Mode {
     IndirectX(u8),
     Zero(u8),
@@ -67,7 +69,7 @@ pub enum Mode {
 }
 
 // What is done with a byte that is read.
-#[derive(Drop)]
+#[derive(Clone, Copy)]
 pub enum Reading {
     Ora,
     And,
@@ -84,7 +86,7 @@ pub enum Reading {
 }
 
 // Which register is stored.
-#[derive(Drop)]
+#[derive(Clone, Copy)]
 pub enum Storing {
     Sta,
     Stx,
@@ -92,7 +94,7 @@ pub enum Storing {
 }
 
 // How a byte is changed.
-#[derive(Drop)]
+#[derive(Clone, Copy)]
 pub enum Changing {
     Asl,
     Rol,
@@ -103,7 +105,7 @@ pub enum Changing {
 }
 
 // When a branch is taken.
-#[derive(Drop)]
+#[derive(Clone, Copy)]
 pub enum Condition {
     Bpl,
     Bmi,
@@ -116,7 +118,7 @@ pub enum Condition {
 }
 
 // What is done inside the processor. TXS and CLI stand by themselves in Instruction: admission has rules of their own for them.
-#[derive(Drop)]
+#[derive(Clone, Copy)]
 pub enum Internal {
     Clc,
     Sec,
@@ -137,7 +139,7 @@ pub enum Internal {
 }
 
 // What is done at the stack, by an instruction that is its opcode alone.
-#[derive(Drop)]
+#[derive(Clone, Copy)]
 pub enum Stacking {
     Php,
     Plp,
@@ -150,7 +152,7 @@ pub enum Stacking {
 // An instruction, grouped by its shape on the bus: "an operation with its addressing mode, and the mode with its operand". Where an
 // operation has one mode only, its case carries the operand itself. Of a JSR that is the low byte: the high one is read after the pushes.
 // Undefined is what "the other 105" opcodes stand for. Cases are in the order of the opcode's fields where these tell them apart.
-#[derive(Drop)]
+#[derive(Clone, Copy)]
 pub enum Instruction {
     Read(Reading, Mode),
     Store(Storing, Mode),
@@ -169,7 +171,7 @@ pub enum Instruction {
 }
 
 // What an access is for: document 02, "What each access was for".
-#[derive(Drop)]
+#[derive(Clone, Copy)]
 pub enum Purpose {
     Opcode,
     Operand,
@@ -181,7 +183,7 @@ pub enum Purpose {
 }
 
 // What a step takes.
-#[derive(Drop)]
+#[derive(Clone, Copy)]
 pub enum Event {
     Res,
     Nmi,
@@ -190,7 +192,7 @@ pub enum Event {
 }
 
 // Why a call is refused, in the order of the documents' numbers, with the details.
-#[derive(Drop)]
+#[derive(Clone, Copy)]
 pub enum Refusal {
     RecordLength,
     Malformed,
@@ -213,7 +215,7 @@ pub enum Refusal {
 }
 
 // What the board is told of an answer: the number of document 01, and perhaps a small and a large detail.
-#[derive(Drop)]
+#[derive(Clone, Copy)]
 pub struct Numbers {
     pub number: u8,
     pub small: u8,
@@ -221,14 +223,14 @@ pub struct Numbers {
 }
 
 // A step: its number of accesses.
-#[derive(Drop)]
+#[derive(Clone, Copy)]
 pub enum StepAnswer {
     Stepped(u8),
     Refused(Refusal),
 }
 
 // A run: the steps done and the accesses listed, and why it stopped early.
-#[derive(Drop)]
+#[derive(Clone, Copy)]
 pub enum RunAnswer {
     Played {
         steps: u64,
@@ -242,35 +244,35 @@ pub enum RunAnswer {
 }
 
 // The restart file: where the last whole record stands, and how many tail bytes follow.
-#[derive(Drop)]
+#[derive(Clone, Copy)]
 pub enum RestartAnswer {
     Found { at: u16, tail: u8 },
     NotFound(Refusal),
 }
 
 // Where the next record of a restart file goes.
-#[derive(Drop)]
+#[derive(Clone, Copy)]
 pub enum AppendAnswer {
     At(u16),
     Full(Refusal),
 }
 
 // Admission.
-#[derive(Drop)]
+#[derive(Clone, Copy)]
 pub enum Verdict {
     Accepted,
     Barred(Refusal),
 }
 
 // Whether a list of accesses was counted.
-#[derive(Drop)]
+#[derive(Clone, Copy)]
 pub enum CountAnswer {
     Counted,
     Uncounted(Refusal),
 }
 
 // The reads and the writes of each page, and whether the list that was fed last is among them.
-#[derive(Drop)]
+#[derive(Clone, Copy)]
 pub struct Counting {
     pub answer: CountAnswer,
     pub reads: [u64; 256],

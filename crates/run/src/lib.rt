@@ -1,5 +1,7 @@
 // A run: "a script of 2 bytes per step (lines, pins)".
 
+#![tactic(auto)]
+
 ghost use Rattle.std.specs.Prelude.{◌≡◌, [], ◌∷◌, ◌%◌, length};
 ghost use Rattle.rules.specs.declared.RunAnswer.TheVariants.{Stopped};
 ghost use Rattle.rules.specs.Answers.{step_word};

@@ -1,5 +1,7 @@
 // BRK, and what the interrupts have in common with it; RES ends as they do. Each access has its number in the step.
 
+#![tactic(auto)]
+
 ghost use Rattle.std.specs.Prelude.{◌<◌, length};
 ghost use Rattle.rules.specs.declared.State.{State};
 ghost use Rattle.rules.specs.Cycles.{execution};

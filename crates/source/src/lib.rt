@@ -1,5 +1,7 @@
 // What bytes are listed as: line after line, put into a buffer.
 
+#![tactic(auto)]
+
 ghost use Rattle.std.specs.Prelude.{◌≡◌, ◌+◌, ◌/◌, ◌%◌, ◌<◌, ◌≤◌, true, ◌++◌, length, take, drop, slice_set};
 ghost use Rattle.std.proofs.lemmas.List.Edits.{sets};
 ghost use Rattle.rules.specs.Basics.{if◌then◌else◌, at, sum16};
@@ -12,21 +14,21 @@ use assembly_rules::{Fault, Listing, Shape};
 use rules::Instruction;
 
 // A line's characters, its LF the last of them, at the front of twelve.
-#[derive(Drop)]
+#[derive(Clone, Copy)]
 struct Spelt {
     text: [u8; 12],
     count: usize,
 }
 
 // How many characters a line has with its LF, and how many bytes it is of.
-#[derive(Drop)]
+#[derive(Clone, Copy)]
 struct Extent {
     count: usize,
     size: usize,
 }
 
 // A line, and how many bytes it is of.
-#[derive(Drop)]
+#[derive(Clone, Copy)]
 struct Line {
     text: [u8; 12],
     count: usize,

@@ -1,5 +1,7 @@
 // What is done at the stack: pushes, pulls, RTS and RTI, after PC+1 was read. One line a bus cycle, in the order of time.
 
+#![tactic(auto)]
+
 ghost use Rattle.std.specs.Prelude.{◌≡◌, ◌+◌, ◌<◌, ◌≤◌, length};
 ghost use Rattle.rules.specs.declared.State.{State};
 ghost use Rattle.rules.specs.declared.Purpose.TheVariants.{Stack};

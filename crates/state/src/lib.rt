@@ -1,5 +1,7 @@
 // The registers where they stand in the record's sixteen bytes: 1 A, 2 X, 3 Y, 4 S, 5 P, 6 and 7 PC.
 
+#![tactic(auto)]
+
 ghost use Rattle.std.specs.Prelude.{◌/◌, ◌%◌, ◌<◌, ◌≡◌, length, set};
 ghost use Rattle.rules.specs.Basics.{at, address};
 ghost use Rattle.rules.specs.Flags.{flags_of, byte_of, nz};

@@ -1,5 +1,7 @@
 // One step: what is refused, which event is taken, and what a step leaves.
 
+#![tactic(auto)]
+
 ghost use Rattle.std.specs.Prelude.{◌≡◌, ℕ, ◌%◌, ◌<◌, ◌≤◌, not, ◌&&◌, List, length, ◌==◌};
 ghost use Rattle.rules.specs.declared.Event.{Event};
 ghost use Rattle.rules.specs.declared.Event.TheVariants.{Irq, Execute};

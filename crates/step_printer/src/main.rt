@@ -1,5 +1,7 @@
 // The step printer. It reads at most one byte more than the longest input has: that shows an input that is too long.
 
+#![tactic(auto)]
+
 use libc::{STDIN_FILENO, STDOUT_FILENO};
 
 fn main() {

@@ -1,5 +1,7 @@
 // The step printer's text: what is printed for an input, "record, lines, pins, image".
 
+#![tactic(auto)]
+
 ghost use Rattle.std.specs.Prelude.{◌+◌, ◌*◌, ◌/◌, ◌%◌, ◌≤◌, ◌≡◌, length, take};
 ghost use Rattle.std.proofs.lemmas.List.Edits.{sets};
 ghost use Rattle.rules.specs.declared.StepAnswer.{StepAnswer};

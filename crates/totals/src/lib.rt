@@ -1,5 +1,7 @@
 // All counts together: document 02, "Cycles by page".
 
+#![tactic(auto)]
+
 ghost use Rattle.std.specs.Prelude.{◌≡◌, ◌+◌, length};
 ghost use Rattle.rules.specs.Pages.{sum};
 ghost use Rattle.totals.specs.Totals.{total_of};
@@ -8,7 +10,7 @@ ghost use Rattle.totals.specs.Totals.{total_of};
 const HALF: u64 = 4294967296;
 
 // All counts together, or that they passed 64 bits.
-#[derive(Drop)]
+#[derive(Clone, Copy)]
 pub enum Totalled {
     Sum(u64),
     Passed,

@@ -1,1 +1,3 @@
 // Laws about the contracts of the other crates; no code.
+
+#![tactic(auto)]

@@ -1,5 +1,7 @@
 // How the accesses of a step reach the image: worked out once, before the first of them. The state is the record's sixteen bytes.
 
+#![tactic(auto)]
+
 ghost use Rattle.std.specs.Prelude.{◌+◌, ◌*◌, ◌/◌, ◌%◌, ◌≤◌, ◌≡◌, length};
 ghost use Rattle.rules.specs.declared.State.{State};
 ghost use Rattle.rules.specs.Cycles.{execution, indirect};
@@ -10,7 +12,7 @@ ghost use Rattle.wiring.specs.Wiring.{Banked, Sound, Stands};
 
 // The bank that is selected begins at `base` in the image, which has `size` bytes. Addresses below `plain` have a rule of the part's own.
 // From the widest field to the narrowest: what has no gaps stays in registers.
-#[derive(Drop)]
+#[derive(Clone, Copy)]
 pub struct Wiring {
     pub base: usize,
     pub size: usize,

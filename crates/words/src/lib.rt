@@ -1,5 +1,7 @@
 // The numbers of documents 01 and 02, and the word that carries them to the board.
 
+#![tactic(auto)]
+
 ghost use Rattle.std.specs.Prelude.{◌≡◌};
 ghost use Rattle.rules.specs.Answers.{plain, with_index, numbers_of, packed, refusal_word};
 

@@ -1,6 +1,8 @@
 // Writes on the bus of the three parts: one at a time, each listed at its cycle's place, and PC pushed by two. The state is the
 // record's sixteen bytes.
 
+#![tactic(auto)]
+
 ghost use Rattle.std.specs.Prelude.{◌+◌, ◌≤◌, ◌<◌, ◌≡◌, length};
 ghost use Rattle.rules.specs.declared.State.{State};
 ghost use Rattle.rules.specs.Cycles.{Bank, execution, done, write};
