@@ -188,7 +188,7 @@ module _ (m₀ : List ℕ) (c : ℕ) (map : List ℕ) (ad : Admitted m₀ c map)
         (ended m₀ c map ad r r.a (omega arith)
         (ap (λ (t : ℕ). stack u.s ∷ stack (down 1 u.s) ∷ stack t ∷ []) (sym (lower u.s 1 r.s (omega arith))))
         (interrupts map ad.N u.s u.p.i u.pc m k s clear r.s g.image.size (byte_of u.p) (u.pc % 256)
-        (u.pc / 256) (address (at m₃ 0xFFFE) (at m₃ 0xFFFF)) ad.𝓛.H whole ad.room
+        (u.pc / 256) (address (at m₃ 0xFFFE) (at m₃ 0xFFFF)) ad.H whole ad.room
         (rw (image₃.code 0xFFFE (vector_protected 0xFFFE refl), image₃.code 0xFFFF (vector_protected 0xFFFF refl)) ad.serves))
         image₃)
 

@@ -40,9 +40,9 @@ formed r h =
     let q = six _ _ _ _ _ _ h in
     record { part = q.0; flags = q.1; first = q.2; second = q.3; level = q.4; pages = q.5 }
 
-pub well_formed : (r : List ℕ) → Formed r → well_formed r ≡ true
+pub well_formed_lem : (r : List ℕ) → Formed r → well_formed r ≡ true
 unfolding well_formed
-well_formed r f = rw (f.part, f.flags, f.first, f.second, f.level, f.pages)
+well_formed_lem r f = rw (f.part, f.flags, f.first, f.second, f.level, f.pages)
 
 -- P: a byte with bit 5 set and 4 clear
 
@@ -242,7 +242,7 @@ pub state_formed : (u : State) (k c : ℕ) → Fit k c u.bus → part_fits k ≡
     well_formed (record_of u) ≡ true
 unfolding record_of
 state_formed u k c f part pages level =
-    well_formed (record_of u)
+    well_formed_lem (record_of u)
     (rw (f.part, f.protected)
     (record {
       part = part;

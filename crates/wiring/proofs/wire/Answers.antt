@@ -4,15 +4,14 @@ use Rattle.rules.specs.Bus.{selected}
 use Rattle.rules.specs.Record.{record_of}
 use Rattle.wiring.proofs.Plain.{plain_is}
 use borrow.Author.Rules.{rules}
-use Rattle.wiring.proofs.wire.Statement.{statement}
-use Rattle.wiring.proofs.wire.Tie as tie
+use Rattle.wiring.proofs.wire.Goals as goal
 
-returns : tie.Need-returns
+pub returns-then-part-eq9 : goal.returns-then-part-eq9
 unfolding selected record_of
-returns c = (
-  (c.base-of.ensures.0, refl),
+returns-then-part-eq9 c = (
+  (c.base_of.ensures.0, refl),
   λ s e q k p b.
-      let nine : s.bus.part ≡ 9 = rw e at c.before.before.if1.true in
+      let nine : s.bus.part ≡ 9 = rw e at c.if-part-eq9.true in
       record {
         bytes = e;
         wired =
@@ -23,17 +22,17 @@ returns c = (
               banks = b;
               bank = rw (e, nine);
               plain = rw nine;
-              base = rw (nine, b) (rw e at (c.base-of.ensures.1 k));
+              base = rw (nine, b) (rw e at (c.base_of.ensures.1 k));
             };
       },
 )
 
-returns-2 : tie.Need-returns-2
+pub returns : goal.returns
 unfolding selected record_of
-returns-2 c = (
-  (c.before.before.before.before.requires.1, refl),
+returns c = (
+  (c.requires.1, refl),
   λ s e q k p b.
-      let other : s.bus.part ≡ 9 → ⊥ = rw e at c.before.if1.false in
+      let other : s.bus.part ≡ 9 → ⊥ = rw e at c.if-part-eq9.false in
       record {
         bytes = e;
         wired =
@@ -43,13 +42,8 @@ returns-2 c = (
               banked = k;
               banks = b;
               bank = rw (ne_eqb _ 9 other);
-              plain = rw e at c.plain_of_lem.ensures ∙ plain_is s.bus.part q.part other;
+              plain = rw e at c.plain_of.ensures ∙ plain_is s.bus.part q.part other;
               base = rw (ne_eqb _ 9 other);
             };
       },
 )
-
-pub wire-spec : {M : Type 1} → statement M
-wire-spec =
-    tie.close
-    (tie.spec (λ c. search rules) (λ c. search rules) (λ c κs. search rules) returns (λ c κs. search rules) returns-2)

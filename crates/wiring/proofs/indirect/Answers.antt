@@ -3,15 +3,14 @@ use borrow.Author.Tests.{ne_eqb}
 use Rattle.rules.specs.Bus.{selected}
 use Rattle.rules.specs.Record.{record_of}
 use borrow.Author.Rules.{rules}
-use Rattle.wiring.proofs.indirect.Statement.{statement}
-use Rattle.wiring.proofs.indirect.Tie as tie
+use Rattle.wiring.proofs.indirect.Goals as goal
 
-returns : tie.Need-returns
+pub returns-then-state-eq9 : goal.returns-then-state-eq9
 unfolding selected record_of
-returns c = (
-  (c.base-of.ensures.0, refl),
+returns-then-state-eq9 c = (
+  (c.base_of.ensures.0, refl),
   λ s h.
-      let nine : s.bus.part ≡ 9 = rw h.bytes at c.before.before.if1.true in
+      let nine : s.bus.part ≡ 9 = rw h.bytes at c.if-state-eq9.true in
       record {
         bytes = h.bytes;
         wired =
@@ -22,17 +21,17 @@ returns c = (
               banks = h.wired.banks;
               bank = rw (h.bytes, nine);
               plain = h.wired.plain;
-              base = rw (nine, h.wired.banks) (rw h.bytes at (c.base-of.ensures.1 h.wired.banked));
+              base = rw (nine, h.wired.banks) (rw h.bytes at (c.base_of.ensures.1 h.wired.banked));
             };
       },
 )
 
-returns-2 : tie.Need-returns-2
+pub returns : goal.returns
 unfolding selected record_of
-returns-2 c = (
-  (c.before.before.before.requires.0.1, refl),
+returns c = (
+  (c.requires.0.1, refl),
   λ s h.
-      let other : s.bus.part ≡ 9 → ⊥ = rw h.bytes at c.if1.false in
+      let other : s.bus.part ≡ 9 → ⊥ = rw h.bytes at c.if-state-eq9.false in
       record {
         bytes = h.bytes;
         wired =
@@ -47,8 +46,3 @@ returns-2 c = (
             };
       },
 )
-
-pub indirect-spec : {M : Type 1} → statement M
-indirect-spec =
-    tie.close
-    (tie.spec (λ c. search rules) (λ c. search rules) (λ c κs. search rules) returns returns-2)
