@@ -32,7 +32,7 @@ use Rattle.assembly_rules.specs.Listing.{letters_of, operand_text, Listed, instr
 use Rattle.assembly_rules.proofs.Listings.{line_size, text_first, text_none}
 use Rattle.assembly_rules.proofs.Plain.{IsPlain, Plain, plain_append, all_plain_lem, all_plain, line_plain, lines_plain}
 use Rattle.assembly_rules.proofs.Plain.{Digit, digit_known}
-use Rattle.assembly_rules.proofs.Spelt.{read_as, operand_read}
+use Rattle.assembly_rules.proofs.Spelt.{run_digit, read_as, operand_read}
 
 -- the line that a shape makes of an opcode and what follows it
 abbrev line_for : Shape → ℕ → ℕ → ℕ → Line
@@ -150,7 +150,13 @@ module _ (c d e p q r : ℕ) (x : Digit c p) (y : Digit d q) (z : Digit e r) (f 
   letters_read : (t : List ℕ) → ((v : ℕ) → run 36 1 v t ≡ record { value = v; left = 1; rest = t }) →
       run 36 4 1 (skip (c ∷ d ∷ e ∷ t)) ≡ record { value = ((1 * 36 + p) * 36 + q) * 36 + r; left = 1; rest = t }
   letters_read t k =
-      rw (x.solid, x.placed, lt-ltb _ _ f, y.placed, lt-ltb _ _ g, z.placed, lt-ltb _ _ h) (k (((1 * 36 + p) * 36 + q) * 36 + r))
+      rw (
+        x.solid,
+        run_digit 36 3 1 c p (d ∷ e ∷ t) x f,
+        run_digit 36 2 (1 * 36 + p) d q (e ∷ t) y g,
+        run_digit 36 1 ((1 * 36 + p) * 36 + q) e r t z h,
+      )
+      (k (((1 * 36 + p) * 36 + q) * 36 + r))
 
 name_read : (a m : ℕ) (t : List ℕ) → Named m → ((v : ℕ) → run 36 1 v t ≡ record { value = v; left = 1; rest = t }) →
     written a (letters_of m ++ t) ≡ coded a m (operand t)

@@ -1,5 +1,5 @@
 -- What is listed is read again: digits, and an operand in each of its shapes.
-use Prim.Native.Nat.{ℕ, ◌+◌, ◌-◌, ◌*◌, ◌/◌, ◌%◌, ◌<◌}
+use Prim.Native.Nat.{ℕ, suc, ◌+◌, ◌-◌, ◌*◌, ◌/◌, ◌%◌, ◌<◌}
 use native.Mathlib.Omega.{arith}
 use mathlib.Core.Path.{◌≡◌, refl, ap, ◌∙◌}
 use mathlib.Core.Bool.{true, false}
@@ -22,9 +22,13 @@ use Rattle.assembly_rules.proofs.Plain.{Digit, digit_known}
 abbrev Ends : ℕ → ℕ → List ℕ → Type 0
 Ends base k t = (v : ℕ) → run base k v t ≡ record { value = v; left = k; rest = t }
 
+-- one digit more is read
+pub run_digit : (base k n c p : ℕ) (t : List ℕ) → Digit c p → p < base → run base (suc k) n (c ∷ t) ≡ run base k (n * base + p) t
+run_digit base k n c p t x h = rw (x.placed, lt-ltb _ _ h)
+
 module _ (c d h l : ℕ) (p : Digit c h) (q : Digit d l) (f : h < 16) (g : l < 16) where
   two_digits : (t : List ℕ) → Ends 16 2 t → number (c ∷ d ∷ t) ≡ value ((0 * 16 + h) * 16 + l) false t
-  two_digits t e = rw (p.placed, lt-ltb _ _ f, q.placed, lt-ltb _ _ g, e ((0 * 16 + h) * 16 + l))
+  two_digits t e = rw (run_digit 16 3 0 c h (d ∷ t) p f, run_digit 16 2 (0 * 16 + h) d l t q g, e ((0 * 16 + h) * 16 + l))
 
   module _ (c' d' h' l' : ℕ) (p' : Digit c' h') (q' : Digit d' l') (f' : h' < 16) (g' : l' < 16) where
     four_digits : (t : List ℕ) → number (c ∷ d ∷ c' ∷ d' ∷ t) ≡ value ((((0 * 16 + h) * 16 + l) * 16 + h') * 16 + l') true t

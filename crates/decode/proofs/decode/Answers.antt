@@ -1,0 +1,8 @@
+use mathlib.Core.Path.{◌∙◌}
+use borrow.Author.Rules.{rules}
+use Rattle.decode.proofs.Decodes.{fields_say}
+use Rattle.decode.proofs.decode.Goals as goal
+
+pub returns : goal.returns
+returns c =
+    c.by_fields.ensures ∙ fields_say _ _ c.args.opcode c.ranges.opcode.fits
