@@ -19,17 +19,13 @@ use Rattle.processor.specs.Begun.{short}
 use Rattle.processor.specs.Executed.{Executed}
 use Rattle.processor.proofs.Fetches.{short_is, undefined_made}
 
--- the tags of all that is defined
-abbrev pub defined : List ℕ
-defined = 0 ∷ 1 ∷ 2 ∷ 3 ∷ 4 ∷ 5 ∷ 6 ∷ 7 ∷ 8 ∷ 9 ∷ 10 ∷ 11 ∷ 12 ∷ []
-
-pub defined_is : (op low high : ℕ) (i : Instruction) → i ≡ instruction_of (decode op) low high → OneOf defined (tag_of the_type i) →
+pub defined_is : (op low high : ℕ) (i : Instruction) → i ≡ instruction_of (decode op) low high → (i ≡ Undefined → ⊥) →
     is_defined (decode op) ≡ true
 defined_is op low high i e h = go (is_defined (decode op)) refl
   where
     go : (b : Bool) → is_defined (decode op) ≡ b → is_defined (decode op) ≡ true
     go true d = d
-    go false d = absurd (miss defined 13 tt (rw (e ∙ undefined_made (decode op) low high d) at h))
+    go false d = absurd (h (e ∙ undefined_made (decode op) low high d))
 
 module _ {s : State} {i l : List ℕ} (op low high : ℕ) (o : op ≡ opcode_of images s i) where
   pub refused : {r : List ℕ} → op < 256 → Undefined ≡ instruction_of (decode op) low high → r ≡ record_of s → Executed s i l 0 r i l

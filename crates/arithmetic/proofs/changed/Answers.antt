@@ -32,7 +32,7 @@ pub returns-in-Dec : goal.returns-in-Dec
 unfolding changed
 returns-in-Dec c =
     let less = c.wrapping_sub_u8 in
-    rw (c.in-Dec.is, c.by_one.ensures, lowered _ _ less.type-inv less.ensures)
+    rw (c.in-Dec.is, c.by_one.ensures, lowered _ _ less.type_inv less.ensures.value)
 
 pub returns-in-Inc : goal.returns-in-Inc
 unfolding changed

@@ -1,0 +1,11 @@
+use Rattle.rules.specs.Cycles.{execution}
+use Rattle.processor.proofs.Fetches.{reaches, stands_past}
+use Rattle.std.proofs.Common.{rules}
+use Rattle.processor.proofs.addressing.at_absolute_indexed.Goals as goal
+
+pub returns : goal.returns
+returns c =
+    λ s h.
+    let o = c.absolute-a.ensures.1 s _ h in
+    let t = stands_past 3 h.stands o.bytes in
+    reaches 3 o (rw c.absolute-a.ensures.0 at (c.indexed.ensures _ execution t))

@@ -1,0 +1,8 @@
+use Rattle.rules.specs.Addressing.{pointer}
+use Rattle.std.proofs.Common.{rules}
+use Rattle.processor.proofs.addressing.pointer.Goals as goal
+
+pub returns : goal.returns
+unfolding pointer
+returns c = λ s h.
+    rw c.wrapping_add_u8-above.ensures.value at (c.word_at.ensures s h)

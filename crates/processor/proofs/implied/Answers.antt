@@ -1,0 +1,13 @@
+use Rattle.rules.specs.Operations.{perform}
+use Rattle.processor.specs.Rest.{rest}
+use Rattle.laws.proofs.Goes.{does, ended}
+use Rattle.processor.proofs.Fetches.{opened_does, one}
+use Rattle.std.proofs.Common.{rules}
+use Rattle.processor.proofs.implied.Goals as goal
+
+pub returns : goal.returns
+unfolding perform rest
+returns c =
+    λ s i l e p.
+    let t = c.past.ensures s e p in
+    opened_does 1 (one t) (does _ (c.inside.ensures _ t) ended)

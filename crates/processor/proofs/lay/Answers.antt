@@ -1,0 +1,42 @@
+use Rattle.std.proofs.Common.{ℕ, List, [], ◌∷◌, arith, rules}
+use types.Run.{OneOf, miss}
+use denote.Enum.Declared.{tag_of}
+use Rattle.rules.specs.declared.Instruction.{Instruction}
+use Rattle.rules.specs.contracts.Instruction.{the_type}
+use Rattle.processor.proofs.Lays.{is_store, is_change, three_left, lays_only}
+use Rattle.processor.proofs.Fetches.{reached, stands_past}
+use Rattle.laws.specs.Sizes.{mode_size}
+use Rattle.processor.specs.Rest.{rest}
+use Rattle.rules.specs.Operations.{perform}
+use Rattle.rules.specs.Cycles.{◌>>=◌}
+use Rattle.processor.proofs.lay.Goals as goal
+
+-- the tags of all that does not lay
+unlaid : List ℕ
+unlaid = 0 ∷ 3 ∷ 4 ∷ 5 ∷ 6 ∷ 7 ∷ 8 ∷ 9 ∷ 10 ∷ 11 ∷ 12 ∷ 13 ∷ []
+
+others : Instruction → Type 0
+others i = OneOf unlaid (tag_of the_type i)
+
+pub returns-in-Store : goal.returns-in-Store
+unfolding perform rest
+returns-in-Store c = (
+  omega (arith, c.place-at.ensures.0.0),
+  λ s h.
+      let m = c.args.m in
+      let g = c.place-at.ensures.1 s h in
+      let t = stands_past (mode_size m) h.stands g.bytes in
+      rw (is_store c.requires.0.0 c.in-Store.is) (reached (mode_size m) _ g (c.store.ensures _ t)),
+)
+
+pub returns-in-Change : goal.returns-in-Change
+unfolding perform rest ◌>>=◌
+returns-in-Change c =
+    let is = is_change c.requires.0.0 c.in-Change.is in (
+      omega (arith, c.place-at.ensures.0.1, three_left is c.requires.0.1),
+      λ s h.
+          let m = c.args.m in
+          let g = c.place-at.ensures.1 s h in
+          let t = stands_past (mode_size m) h.stands g.bytes in
+          rw is (reached (mode_size m) _ g (c.change.ensures _ t)),
+    )
