@@ -158,7 +158,7 @@ module _ (text : List ℕ) (start : ℕ) (buffer : List ℕ) (writing : Bool) wh
       pub pass_stop : (f : Fault) → step_to room count l ≡ Stop f →
           Passes (assembled start (length buffer) text) writing (Refused f n) buffer bytes
       pass_stop f h =
-          let m = next ∙ judged_stop (length buffer) n count p.before _ p.size f l (rw long at h) in
+          let m = next ∙ judged_stop (length buffer) n count p.before later p.size f l (rw long at h) in
           record {
             answered = rw m;
             judged = λ w. p.kept ∙ (rw w);
