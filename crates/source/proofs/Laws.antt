@@ -15,7 +15,6 @@ use Rattle.assembly_rules.specs.declared.Shape.{Shape}
 use Rattle.assembly_rules.specs.declared.Fault.{Fault}
 use Rattle.assembly_rules.specs.declared.Fault.TheVariants.{NoRoom}
 use Rattle.assembly_rules.specs.declared.Listing.{Listing}
-use Rattle.assembly_rules.specs.declared.Listing.TheVariants as Listing
 use Rattle.assembly_rules.specs.Characters.{said}
 use Rattle.assembly_rules.specs.Mnemonics.{name_of, shape_of}
 use Rattle.assembly_rules.specs.Listing.{operand_text, Listed, instruction_line, line_at, text_of, listing}
