@@ -1,5 +1,7 @@
 -- Lines, one after the other: how a text is cut, and what a pass has made so far.
-use Rattle.std.proofs.Common.{◌≡◌, ℕ, suc, ◌+◌, ◌-◌, ◌<◌, ◌≤◌, Bool, true, false, ◌&&◌, eqb, List, [], ◌∷◌, ◌++◌, length, take, drop, set, sym, refl, ap, ◌∙◌, append-nil, add-one, arith, length-drop, get_or-drop, take_all, take-suc, drop-drop, eq-eqb, ne_eqb}
+use Rattle.std.proofs.Common.{◌≡◌, ℕ, suc, ◌+◌, ◌-◌, ◌<◌, ◌≤◌, Bool, true, false, ◌&&◌, eqb, List, [], ◌∷◌, ◌++◌, length, take, drop, set}
+use Rattle.std.proofs.Common.{sym, refl, ap, ◌∙◌, append-nil, add-one, arith, length-drop, get_or-drop, take_all, take-suc, drop-drop}
+use Rattle.std.proofs.Common.{eq-eqb, ne_eqb}
 use mathlib.Core.Bool.{false≢true}
 use lib.Seq.{sets}
 use Rattle.rules.specs.Basics.{at}

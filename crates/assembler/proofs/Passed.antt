@@ -1,5 +1,6 @@
 -- What a pass has made so far, line by line.
-use Rattle.std.proofs.Common.{◌≡◌, ℕ, suc, ◌+◌, ◌-◌, ◌<◌, ◌≤◌, Bool, true, false, leb, List, [], ◌∷◌, ◌++◌, length, take, drop, sym, refl, ap, ◌∙◌, add-one, arith, length-append, length-drop, drop-drop, le-leb, leb-true}
+use Rattle.std.proofs.Common.{◌≡◌, ℕ, suc, ◌+◌, ◌-◌, ◌<◌, ◌≤◌, Bool, true, false, leb, List, [], ◌∷◌, ◌++◌, length, take, drop, sym, refl}
+use Rattle.std.proofs.Common.{ap, ◌∙◌, add-one, arith, length-append, length-drop, drop-drop, le-leb, leb-true}
 use borrow.Author.Tests.{lt-leb}
 use lib.Seq.{sets, sets-eq, drop-append-add, take-append_seam}
 use Rattle.rules.specs.Basics.{if◌then◌else◌, sum16}
