@@ -1,8 +1,10 @@
 -- Lines, one after the other: how a text is cut, and what a pass has made so far.
-use Rattle.std.proofs.Common.{◌≡◌, ℕ, suc, ◌+◌, ◌-◌, ◌<◌, ◌≤◌, Bool, true, false, ◌&&◌, eqb, List, [], ◌∷◌, ◌++◌, length, take, drop, set, sym, refl, ap, ◌∙◌, append-nil, add-one, arith, length-drop, get_or-drop, take_all, take-suc, drop-drop, eq-eqb, ne_eqb}
+use Rattle.std.proofs.Common.{◌≡◌, ℕ, suc, ◌+◌, ◌-◌, ◌<◌, ◌≤◌, Bool, true, false, ◌&&◌, eqb, List, [], ◌∷◌, ◌++◌, length, take, drop, set}
+use Rattle.std.proofs.Common.{sym, refl, ap, ◌∙◌, append-nil, add-one, arith, length-drop, get_or-drop, take_all, take-suc, drop-drop}
+use Rattle.std.proofs.Common.{eq-eqb, ne_eqb}
 use mathlib.Core.Bool.{false≢true}
 use lib.Seq.{sets}
-use Rattle.rules.specs.Basics.{if◌then◌else◌, at}
+use Rattle.rules.specs.Basics.{at}
 use Rattle.laws.proofs.Tests.{if_case, and_right}
 use Rattle.operands.proofs.Laws.{none_left, one_left}
 use Rattle.assembly_rules.specs.Assembly.{begins_with_lf, onto, lines_of}

@@ -1,5 +1,6 @@
 -- What a pass has made so far, line by line.
-use Rattle.std.proofs.Common.{◌≡◌, ℕ, suc, ◌+◌, ◌-◌, ◌<◌, ◌≤◌, Bool, true, false, leb, List, [], ◌∷◌, ◌++◌, length, take, drop, sym, refl, ap, ◌∙◌, add-one, arith, length-append, length-drop, drop-drop, le-leb, leb-true}
+use Rattle.std.proofs.Common.{◌≡◌, ℕ, suc, ◌+◌, ◌-◌, ◌<◌, ◌≤◌, Bool, true, false, leb, List, [], ◌∷◌, ◌++◌, length, take, drop, sym, refl}
+use Rattle.std.proofs.Common.{ap, ◌∙◌, add-one, arith, length-append, length-drop, drop-drop, le-leb, leb-true}
 use borrow.Author.Tests.{lt-leb}
 use lib.Seq.{sets, sets-eq, drop-append-add, take-append_seam}
 use Rattle.rules.specs.Basics.{if◌then◌else◌, sum16}
@@ -158,7 +159,7 @@ module _ (text : List ℕ) (start : ℕ) (buffer : List ℕ) (writing : Bool) wh
       pub pass_stop : (f : Fault) → step_to room count l ≡ Stop f →
           Passes (assembled start (length buffer) text) writing (Refused f n) buffer bytes
       pass_stop f h =
-          let m = next ∙ judged_stop (length buffer) n count p.before _ p.size f l (rw long at h) in
+          let m = next ∙ judged_stop (length buffer) n count p.before later p.size f l (rw long at h) in
           record {
             answered = rw m;
             judged = λ w. p.kept ∙ (rw w);

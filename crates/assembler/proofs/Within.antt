@@ -13,7 +13,8 @@ abbrev Within : ℕ → Made → Type 0
 Within room (made bytes) = length bytes ≤ room
 Within room (wrong e n) = Unit {0}
 
-module _ (room n : ℕ) (before : List ℕ) (go_on : List ℕ → Made) (h : (bytes : List ℕ) → length bytes ≤ room → Within room (go_on bytes)) where
+module _ (room n : ℕ) (before : List ℕ) (go_on : List ℕ → Made)
+    (h : (bytes : List ℕ) → length bytes ≤ room → Within room (go_on bytes)) where
   fitted_within : (bytes : List ℕ) → Within room (fitted room n before go_on bytes)
   fitted_within bytes =
       if_case (Within room) (leb _ room) (go_on (before ++ bytes)) (wrong NoRoom n)

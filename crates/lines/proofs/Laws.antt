@@ -1,5 +1,6 @@
 -- A line's characters, one by one: where its comment begins, and how deep its brackets are.
-use Rattle.std.proofs.Common.{◌≡◌, ℕ, suc, ◌+◌, ◌-◌, ◌<◌, ◌≤◌, true, false, List, [], ◌∷◌, ◌++◌, length, take, drop, sym, append_assoc, append-nil, add-one, arith, take-suc, le-ltb, lt-ltb, eq-eqb, ne_eqb}
+use Rattle.std.proofs.Common.{◌≡◌, ℕ, suc, ◌+◌, ◌-◌, ◌<◌, ◌≤◌, true, false, List, [], ◌∷◌, ◌++◌, length, take, drop, sym, append_assoc}
+use Rattle.std.proofs.Common.{append-nil, add-one, arith, take-suc, le-ltb, lt-ltb, eq-eqb, ne_eqb}
 use Rattle.rules.specs.Basics.{at}
 use Rattle.operands.proofs.Laws.{none_left, one_left}
 use Rattle.assembly_rules.specs.Lines.{content, opened, too_deep, written, line_of}

@@ -3,7 +3,8 @@
 #![tactic(auto)]
 
 ghost use Rattle.std.specs.Prelude.{◌≡◌, ◌+◌, ◌-◌, ◌%◌, ◌<◌, ◌≤◌, length, take};
-ghost use Rattle.assembly_rules.specs.Lines.{content, opened, too_deep, alone_line, byte_line, word_line, address_line, branch_line, plain_line};
+ghost use Rattle.assembly_rules.specs.Lines.{content, opened, too_deep, alone_line, byte_line, word_line, address_line, branch_line};
+ghost use Rattle.assembly_rules.specs.Lines.{plain_line};
 ghost use Rattle.assembly_rules.specs.Lines.{coded, byte_value, valued, blank, named, written, line_of};
 
 use assembly_rules::{Fault, Line, Operand, Shape};

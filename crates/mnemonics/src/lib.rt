@@ -9,6 +9,7 @@ ghost use Rattle.mnemonics.specs.Rows.{row_of, chosen, opcode_in};
 use assembly_rules::Shape;
 
 // A mnemonic's row: from bit 8 on the set of its shapes, below that what all its opcodes are counted from. 0 where the name is no mnemonic.
+#[tactic(auto, unfolding(crate::specs::Rows::known))]
 fn row_of(name: u32) -> u32
     ensures { result ≡ row_of name }
 {

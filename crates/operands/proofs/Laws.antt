@@ -1,5 +1,6 @@
 -- How a text is read from a place on, character by character.
-use Rattle.std.proofs.Common.{◌≡◌, ℕ, zero, suc, ◌+◌, ◌-◌, ◌*◌, ◌^◌, ◌<◌, ◌≤◌, true, false, ltb, List, [], ◌∷◌, length, drop, refl, ap, ◌∙◌, mul-le-mul_left, add-one, arith, drop_of_length-le, drop-cons, ltb-true, le-ltb, lt-ltb}
+use Rattle.std.proofs.Common.{◌≡◌, ℕ, zero, suc, ◌+◌, ◌-◌, ◌*◌, ◌^◌, ◌<◌, ◌≤◌, true, false, ltb, List, [], ◌∷◌, length, drop, refl, ap}
+use Rattle.std.proofs.Common.{◌∙◌, mul-le-mul_left, add-one, arith, drop_of_length-le, drop-cons, ltb-true, le-ltb, lt-ltb}
 use Prim.Native.Nat.pow
 use Rattle.rules.specs.Basics.{at}
 use Rattle.laws.proofs.Tests.{if_case}

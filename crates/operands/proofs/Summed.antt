@@ -1,5 +1,6 @@
 -- How a sum and a term are read, from what their parts are read as.
-use Rattle.std.proofs.Common.{◌≡◌, ℕ, zero, suc, ◌-◌, ◌<◌, ◌≤◌, Bool, true, false, List, length, drop, refl, ap, ◌∙◌, arith, length-drop, eq-eqb, ne_eqb}
+use Rattle.std.proofs.Common.{◌≡◌, ℕ, zero, suc, ◌-◌, ◌<◌, ◌≤◌, Bool, true, false, List, length, drop, refl, ap, ◌∙◌, arith, length-drop}
+use Rattle.std.proofs.Common.{eq-eqb, ne_eqb}
 use Rattle.assembly_rules.specs.Characters.{Next, next}
 use Rattle.assembly_rules.specs.Sums.{Read, value, none, is_sign, joined, go_on, closed, number, term, sum_by}
 use Rattle.operands.specs.declared.Character.{Character}

@@ -1,5 +1,8 @@
 -- A line by the instruction that stands there whole, and a text line by line.
-use Rattle.std.proofs.Common.{◌≡◌, ℕ, suc, ◌+◌, ◌-◌, ◌<◌, ◌≤◌, Bool, true, false, not, ◌&&◌, eqb, ltb, leb, List, [], ◌∷◌, ◌++◌, length, take, drop, set, sym, refl, ap, ◌∙◌, append_assoc, append-nil, arith, length-append, length-drop, take-append-drop, drop_of_length-le, get_or-drop, drop-drop, take-add, ltb-false, ltb-true, le-ltb, le-leb, leb-true}
+use Rattle.std.proofs.Common.{◌≡◌, ℕ, suc, ◌+◌, ◌-◌, ◌<◌, ◌≤◌, Bool, true, false, not, ◌&&◌, eqb, ltb, leb, List, [], ◌∷◌, ◌++◌, length}
+use Rattle.std.proofs.Common.{take, drop, set, sym, refl, ap, ◌∙◌, append_assoc, append-nil, arith, length-append, length-drop}
+use Rattle.std.proofs.Common.{take-append-drop, drop_of_length-le, get_or-drop, drop-drop, take-add, ltb-false, ltb-true, le-ltb, le-leb}
+use Rattle.std.proofs.Common.{leb-true}
 use Prim.Native.Char.{code}
 use borrow.Author.Tests.{lt-leb}
 use lib.Seq.{sets, take-append_seam, drop-append_seam}
@@ -15,7 +18,6 @@ use Rattle.assembly_rules.specs.declared.Shape.{Shape}
 use Rattle.assembly_rules.specs.declared.Fault.{Fault}
 use Rattle.assembly_rules.specs.declared.Fault.TheVariants.{NoRoom}
 use Rattle.assembly_rules.specs.declared.Listing.{Listing}
-use Rattle.assembly_rules.specs.declared.Listing.TheVariants as Listing
 use Rattle.assembly_rules.specs.Characters.{said}
 use Rattle.assembly_rules.specs.Mnemonics.{name_of, shape_of}
 use Rattle.assembly_rules.specs.Listing.{operand_text, Listed, instruction_line, line_at, text_of, listing}
