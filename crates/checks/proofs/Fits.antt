@@ -26,7 +26,8 @@ module _ (r m : List ℕ) where
       tested (record_tests images r m ++ us) refuse a ≡ refuse e
   unfit {A} us refuse a e h =
       tested_append (record_tests images r m) us refuse a
-      ∙ tested_both (λ (x : Checked) (y : A). Refused e ≡ x → y ≡ refuse e) (record_tests images r m) Refused refuse Fit (tested us refuse a)
+      ∙ tested_both (λ (x : Checked) (y : A). Refused e ≡ x → y ≡ refuse e) (record_tests images r m) Refused refuse Fit
+      (tested us refuse a)
       (λ d q. ap refuse (cc))
       (λ q. let z : ◌≡◌ {A = ℕ} 0 1 = cc in absurd (omega arith))
       h

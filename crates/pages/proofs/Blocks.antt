@@ -57,7 +57,8 @@ module _ (l m : List ℕ) (bytes : Bytes l) (whole : length l % 8 ≡ 0) where
   same_if true k = refl
   same_if false k = refl
 
-  still_malformed : all (records_in l) (is_record l) ≡ false → tested (form_tests m) refused_by (refused_by ListRecord) ≡ counting_of (l ++ m)
+  still_malformed : all (records_in l) (is_record l) ≡ false →
+      tested (form_tests m) refused_by (refused_by ListRecord) ≡ counting_of (l ++ m)
   unfolding fed
   still_malformed h =
       let every = all (records_in m) (is_record m) in

@@ -4,7 +4,8 @@ use Rattle.pages.proofs.next.Goals as goal
 
 pub returns-in-Counted-feed : goal.returns-in-Counted-feed
 returns-in-Counted-feed c =
-    let p = both c.args.counts _ c.args.block.now (rw c.in-Counted.is (block_counted _ _ _ _ _ (rw c.in-Counted-feed.is at c.feed.ensures))) in
+    let what = rw c.in-Counted-feed.is at c.feed.ensures in
+    let p = both c.args.counts _ c.args.block.now (rw c.in-Counted.is (block_counted _ _ _ _ _ what)) in
     record { exact = p.0; joined = p.1 }
 
 pub returns-in-Uncounted-feed : goal.returns-in-Uncounted-feed
