@@ -64,6 +64,7 @@ module _ (map : List ℕ) where
       go j zero l n = absurd (omega arith)
       go j (suc k) l n = last (λ q. go j k q (omega arith)) (ℕ_discrete j k)
         where
-          last : (j < k → (mark_at map j).address < (mark_at map k).address) → Dec (j ≡ k) → (mark_at map j).address < (mark_at map (suc k)).address
+          last : (j < k → (mark_at map j).address < (mark_at map k).address) → Dec (j ≡ k) →
+              (mark_at map j).address < (mark_at map (suc k)).address
           last rest (yes e) = rw e (one k n)
           last rest (no d) = omega (arith, rest (omega arith), one k n)

@@ -5,7 +5,8 @@ ghost use Rattle.rules.specs.declared.Instruction.TheVariants.{AtStack};
 ghost use Rattle.rules.specs.declared.Refusal.TheVariants.{StoreAddress, Stack};
 ghost use Rattle.rules.specs.Basics.{if◌then◌else◌, address};
 ghost use Rattle.admission_rules.specs.declared.Rules.TheVariants.{Broken, Leads};
-ghost use Rattle.admission_rules.specs.Admission.{one, outside, store_rules, goes_to, goes_on, goes_up, goes_down, calls, is_at_zero, rules_of};
+ghost use Rattle.admission_rules.specs.Admission.{one, outside, store_rules, goes_to, goes_on, goes_up, goes_down};
+ghost use Rattle.admission_rules.specs.Admission.{calls, is_at_zero, rules_of};
 ghost use Rattle.laws.specs.Sizes.{mode_size, size_in};
 
 use crate::marks;

@@ -10,7 +10,8 @@ ghost use Rattle.rules.specs.declared.Verdict.TheVariants.{Accepted, Barred};
 ghost use Rattle.rules.specs.Basics.{at, sum16};
 ghost use Rattle.rules.specs.Answers.{tested};
 ghost use Rattle.rules.specs.Bus.{images};
-ghost use Rattle.admission_rules.specs.Admission.{marks_in, input_fits, vector_at, vectors_hold, of_records, reached, rules_at, rule_tests, admit};
+ghost use Rattle.admission_rules.specs.Admission.{marks_in, input_fits, vector_at, vectors_hold, of_records};
+ghost use Rattle.admission_rules.specs.Admission.{reached, rules_at, rule_tests, admit};
 ghost use Rattle.admission_rules.specs.Safety.{Safe};
 ghost use Rattle.admission.specs.Maps.{Ascending};
 

@@ -1,8 +1,8 @@
 -- What the first tests leave: a refusal of step and run alike, or a record and an image that fit.
 use Prim.Native.Nat.{ℕ}
 use native.Mathlib.Omega.{arith}
-use mathlib.Core.Path.{◌≡◌, refl, ap, ◌∙◌}
-use mathlib.Core.List.{List, [], ◌∷◌, ◌++◌}
+use mathlib.Core.Path.{◌≡◌, ap, ◌∙◌}
+use mathlib.Core.List.{List, ◌++◌}
 use borrow.Author.Tests.{eqb-true}
 use lib.ListN.{length}
 use Rattle.rules.specs.declared.Refusal.{Refusal}
@@ -26,7 +26,8 @@ module _ (r m : List ℕ) where
       tested (record_tests images r m ++ us) refuse a ≡ refuse e
   unfit {A} us refuse a e h =
       tested_append (record_tests images r m) us refuse a
-      ∙ tested_both (λ (x : Checked) (y : A). Refused e ≡ x → y ≡ refuse e) (record_tests images r m) Refused refuse Fit (tested us refuse a)
+      ∙ tested_both (λ (x : Checked) (y : A). Refused e ≡ x → y ≡ refuse e) (record_tests images r m) Refused refuse Fit
+      (tested us refuse a)
       (λ d q. ap refuse (cc))
       (λ q. let z : ◌≡◌ {A = ℕ} 0 1 = cc in absurd (omega arith))
       h

@@ -5,7 +5,7 @@ use mathlib.Core.Path.{◌≡◌, refl, sym, ap, ◌∙◌}
 use mathlib.Core.Bool.{Bool, true, false}
 use mathlib.Core.List.{List, [], ◌++◌}
 use borrow.Author.Tests.{eq-eqb, le-ltb, ltb-false}
-use lib.Dec.{ltb, eqb}
+use lib.Dec.{ltb}
 use lib.ListN.{length}
 use Rattle.rules.specs.declared.Refusal.{Refusal}
 use Rattle.rules.specs.declared.Refusal.TheVariants.{ListRecord, Total}
@@ -57,7 +57,8 @@ module _ (l m : List ℕ) (bytes : Bytes l) (whole : length l % 8 ≡ 0) where
   same_if true k = refl
   same_if false k = refl
 
-  still_malformed : all (records_in l) (is_record l) ≡ false → tested (form_tests m) refused_by (refused_by ListRecord) ≡ counting_of (l ++ m)
+  still_malformed : all (records_in l) (is_record l) ≡ false →
+      tested (form_tests m) refused_by (refused_by ListRecord) ≡ counting_of (l ++ m)
   unfolding fed
   still_malformed h =
       let every = all (records_in m) (is_record m) in

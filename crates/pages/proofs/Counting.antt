@@ -1,16 +1,16 @@
 -- Numbers and lists as the loops of counting go over them.
-use Prim.Native.Nat.{ℕ, zero, suc, ◌+◌, ◌-◌, ◌*◌, ◌/◌, ◌%◌, ◌<◌, ◌≤◌, ◌^◌}
+use Prim.Native.Nat.{ℕ, ◌+◌, ◌-◌, ◌<◌, ◌≤◌, ◌^◌}
 use native.Mathlib.Numerals.{add-one}
 use native.Mathlib.Omega.{arith}
 use native.Mathlib.Decide.{dec_le}
 use mathlib.Core.Path.{◌≡◌, refl}
 use mathlib.Core.Bool.{Bool, true, false, ◌&&◌}
-use mathlib.Core.List.{List, [], ◌∷◌}
+use mathlib.Core.List.{List}
 use borrow.Author.Tests.{le-leb, lt-leb, lt-ltb, le-ltb, leb-true, ltb-true, ltb-false, eq-eqb, ne_eqb}
-use lib.Dec.{leb, ltb, eqb, eqb-suc-zero}
+use lib.Dec.{leb, ltb}
 use Rattle.rules.specs.Basics.{if◌then◌else◌, all}
 use Rattle.rules.specs.Pages.{page_of, kind_of, is_record, raised, counted}
-use Rattle.laws.proofs.Tests.{and_true, and_left, all_at}
+use Rattle.laws.proofs.Tests.{and_left, all_at}
 use Rattle.totals.specs.declared.Totalled.TheVariants.{Sum, Passed}
 use Rattle.totals.specs.Totals.{total_of}
 

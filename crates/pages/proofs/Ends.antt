@@ -6,7 +6,7 @@ use mathlib.Core.Path.{◌≡◌, refl}
 use mathlib.Core.Bool.{Bool, true, false, ◌&&◌}
 use borrow.Author.Tests.{le-leb, lt-leb, lt-ltb, le-ltb}
 use lib.Dec.{leb, ltb, eqb, eqb-suc-zero}
-use lib.Bits.{bit_and, bit_or, and_le_l, and_le_r, or_lt, or_add_and, or_mod}
+use lib.Bits.{bit_or, and_le_l, and_le_r, or_lt, or_add_and, or_mod}
 use Rattle.laws.proofs.Tests.{and_true}
 use Rattle.pages.specs.Ends.{end_fits}
 use Rattle.pages.proofs.Counting.{and_false}

@@ -1,5 +1,5 @@
 -- What the searches of a map say of it.
-use Rattle.std.proofs.Common.{◌≡◌, ℕ, zero, suc, ◌+◌, ◌-◌, ◌<◌, ◌≤◌, Bool, true, false, ◌&&◌, ◌||◌, ltb, List, sym, refl, ◌∙◌, arith, ne_eqb}
+use Rattle.std.proofs.Common.{◌≡◌, ℕ, zero, suc, ◌-◌, ◌<◌, ◌≤◌, Bool, true, false, ◌&&◌, ◌||◌, ltb, List, sym, refl, ◌∙◌, arith, ne_eqb}
 use native.Mathlib.Decide.{dec_le, ℕ_discrete}
 use Rattle.admission_rules.specs.Admission.{mark_at, marks_in, some, marked, is_mark, ascends}
 use Rattle.admission_rules.specs.declared.Mark.{Mark}

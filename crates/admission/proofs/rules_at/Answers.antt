@@ -1,0 +1,23 @@
+use Rattle.std.proofs.Common.{arith}
+use Rattle.admission.proofs.Records.{unprotected, too_long, its_own}
+use Rattle.admission.proofs.rules_at.Goals as goal
+
+pub returns-then-a-c : goal.returns-then-a-c
+returns-then-a-c c =
+    let a = c.args in
+    unprotected a.image.now a.c a.map.now a.i _ c.mark_at-m.ensures c.if-a-c.true
+
+pub returns-then-a-size-gt65536 : goal.returns-then-a-size-gt65536
+returns-then-a-size-gt65536 c =
+    let a = c.args in
+    too_long a.image.now a.c a.map.now a.i _ c.mark_at-m.ensures c.if-a-c.false _ _ _ _
+    (λ j. omega (arith, c.type_inv.image j)) c.byte_after-low.ensures c.byte_after-high.ensures
+    c.decode-instruction.ensures c.size_of-size.ensures c.if-a-size-gt65536.true
+
+pub returns : goal.returns
+returns c =
+    let a = c.args in
+    its_own a.image.now a.c a.map.now a.i _ c.mark_at-m.ensures c.if-a-c.false _ _ _ _
+    (λ j. omega (arith, c.type_inv.image j)) c.byte_after-low.ensures c.byte_after-high.ensures
+    c.decode-instruction.ensures c.size_of-size.ensures c.if-a-size-gt65536.false _ _ c.wrapping_add_u16-next.ensures.value
+    c.rules_for.ensures
