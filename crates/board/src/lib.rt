@@ -11,8 +11,7 @@ ghost use Rattle.rules.specs.Run.{run_of};
 use checks::Checked;
 
 // "Step: 1 to 6 in order"
-#[unsafe(no_mangle)]
-pub extern "C" fn wankitare_step(
+pub fn wankitare_step(
     state: &mut [u8],
     image: &mut [u8],
     lines: u8,
@@ -35,8 +34,7 @@ pub extern "C" fn wankitare_step(
     }
 }
 
-#[unsafe(no_mangle)]
-pub extern "C" fn wankitare_run(
+pub fn wankitare_run(
     state: &mut [u8],
     image: &mut [u8],
     script: &[u8],

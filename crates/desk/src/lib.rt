@@ -40,8 +40,7 @@ fn listing_word(l: Listing) -> u64
 }
 
 // Demand 3: 0 promises that the image is safe.
-#[unsafe(no_mangle)]
-pub extern "C" fn wankitare_admit(image: &[u8], c: u8, map: &[u8]) -> u64
+pub fn wankitare_admit(image: &[u8], c: u8, map: &[u8]) -> u64
     ensures exact { result ≡ verdict_word (admit images image.now c map.now) }
     ensures safe { result ≡ 0 → Safe image.now c map.now }
 {
@@ -51,12 +50,7 @@ pub extern "C" fn wankitare_admit(image: &[u8], c: u8, map: &[u8]) -> u64
     }
 }
 
-#[unsafe(no_mangle)]
-pub extern "C" fn wankitare_pages(
-    reads: &mut [u64; 256],
-    writes: &mut [u64; 256],
-    accesses: &[u8],
-) -> u64
+pub fn wankitare_pages(reads: &mut [u64; 256], writes: &mut [u64; 256], accesses: &[u8]) -> u64
     ensures { record { word = result; reads = reads.new; writes = writes.new }
         ≡ page_words (fed reads.old writes.old accesses.now) }
 {
@@ -66,15 +60,13 @@ pub extern "C" fn wankitare_pages(
     }
 }
 
-#[unsafe(no_mangle)]
-pub extern "C" fn wankitare_assemble(text: &[u8], start: u16, bytes: &mut [u8]) -> u64
+pub fn wankitare_assemble(text: &[u8], start: u16, bytes: &mut [u8]) -> u64
     ensures { record { word = result; left = bytes.new } ≡ assemble_words text.now start bytes.old }
 {
     assembly_word(assembler::assemble(text, start, bytes))
 }
 
-#[unsafe(no_mangle)]
-pub extern "C" fn wankitare_list(bytes: &[u8], start: u16, text: &mut [u8]) -> u64
+pub fn wankitare_list(bytes: &[u8], start: u16, text: &mut [u8]) -> u64
     ensures { record { word = result; left = text.new } ≡ list_words bytes.now start text.old }
 {
     listing_word(source::list(bytes, start, text))

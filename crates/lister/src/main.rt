@@ -5,8 +5,10 @@
 ghost use Rattle.std.specs.Prelude.{◌≤◌, length};
 
 use assembly_rules::Listing;
-use libc::{STDERR_FILENO, STDIN_FILENO, STDOUT_FILENO};
 use operands::Found;
+use std::env::{Env, FillError};
+use std::io;
+use std::io::Read;
 
 // One byte more than a whole memory has: that shows an input that is too long.
 const ROOM: usize = 65537;
@@ -25,7 +27,7 @@ enum Start {
 #[derive(Clone, Copy)]
 struct Filled {
     count: usize,
-    failed: bool,
+    failure: Option<io::Error>,
 }
 
 // "the first argument is the start, four hexadecimal digits"
@@ -44,105 +46,116 @@ fn start_of(word: &[u8]) -> Start {
     }
 }
 
-fn told() -> Start {
-    if os::arg_count() != 2 {
-        return Start::Nowhere;
+// What the only argument says. One that has more than four bytes is none that could.
+fn told(rt: &impl Env) -> Start {
+    let mut word = [0u8; 4];
+    match rt.arg(2, &mut word) {
+        Err(FillError::NotPresent) => {}
+        Ok(_size) => return Start::Nowhere,
+        Err(FillError::TooLong) => return Start::Nowhere,
     }
-    let mut word = io::buffer();
-    let size = os::arg(1, &mut word);
-    start_of(&word[..size])
-}
-
-fn read_once(fd: i32, buffer: &mut [u8]) -> Filled
-    ensures { result.count ≤ length buffer.new }
-{
-    let got = libc::read(fd, buffer);
-    Filled {
-        count: io::count(got, buffer),
-        failed: got < 0,
+    match rt.arg(1, &mut word) {
+        Ok(size) => start_of(&word[..size]),
+        Err(_e) => Start::Nowhere,
     }
 }
 
 // Reads until the buffer is full, or the input ends.
-fn fill(fd: i32, buffer: &mut [u8]) -> Filled
+fn fill(input: &mut impl Read, buffer: &mut [u8]) -> Filled
     ensures { result.count ≤ length buffer.new }
 {
     let mut done = 0;
     while done < buffer.len() {
-        let filled = read_once(fd, &mut buffer[done..]);
-        let n = filled.count;
-        let failed = filled.failed;
-        if n == 0 {
-            return Filled {
-                count: done,
-                failed: failed,
-            };
+        match input.read(&mut buffer[done..]) {
+            Ok(n) => {
+                if n == 0 {
+                    break;
+                }
+                done += n;
+            }
+            Err(e) => {
+                return Filled {
+                    count: done,
+                    failure: Some(e),
+                };
+            }
         }
-        done = done + n;
     }
     Filled {
         count: done,
-        failed: false,
+        failure: None,
     }
 }
 
 // An array that is lent whole brings its length with it: no proof counts its zeros.
-fn take(input: &mut [u8; ROOM]) -> Filled
+fn take(rt: &impl Input, input: &mut [u8; ROOM]) -> Filled
     ensures { result.count ≤ length input.new }
 {
-    fill(STDIN_FILENO, input)
+    fill(&mut rt.reader(), input)
 }
 
-fn give(output: &[u8]) {
-    if !io::write_all(STDOUT_FILENO, output) {
-        os::fail(b"standard output");
+// What failed, and why: in the system's words, without the number that std puts behind them.
+fn tell(rt: &(impl Eprint + Alloc), what: &str, e: io::Error) -> io::Result<()> {
+    let said = e.to_string(rt.alloc())?;
+    match said.as_str().split_once(" (os error ") {
+        Some((reason, _number)) => eprintln!(rt; "{what}: {reason}"),
+        None => eprintln!(rt; "{what}: {said}"),
+    }
+}
+
+fn give(rt: &(impl Print + Eprint + Alloc), output: &[u8]) -> io::Result<()> {
+    match rt.write_all(output) {
+        Ok(()) => Ok(()),
+        Err(e) => tell(rt, "standard output", e),
     }
 }
 
 // "34 no room (the lister's only one)", which no memory meets here.
-fn refuse() {
-    io::write_all(STDERR_FILENO, b"E 34\n");
+fn refuse(rt: &impl Eprint) -> io::Result<()> {
+    eprintln!(rt; "E 34")
 }
 
-fn list(bytes: &[u8], start: u16, text: &mut [u8]) {
+fn list(
+    rt: &(impl Print + Eprint + Alloc),
+    bytes: &[u8],
+    start: u16,
+    text: &mut [u8],
+) -> io::Result<()> {
     match source::list(bytes, start, text) {
-        Listing::Listed(count) => give(&text[0..count]),
-        Listing::Unlisted(_e) => refuse(),
+        Listing::Listed(count) => give(rt, &text[0..count]),
+        Listing::Unlisted(_e) => refuse(rt),
     }
 }
 
 // The same of the text.
-fn list_within(bytes: &[u8], start: u16, text: &mut [u8; TEXT_ROOM]) {
-    list(bytes, start, text);
+fn list_within(
+    rt: &(impl Print + Eprint + Alloc),
+    bytes: &[u8],
+    start: u16,
+    text: &mut [u8; TEXT_ROOM],
+) -> io::Result<()> {
+    list(rt, bytes, start, text)
 }
 
-fn list_input(start: u16) {
+fn list_input(rt: &(impl Input + Print + Eprint + Alloc), start: u16) -> io::Result<()> {
     let mut bytes = [0u8; ROOM];
-    let taken = take(&mut bytes);
+    let taken = take(rt, &mut bytes);
     let count = taken.count;
-    if taken.failed {
-        os::fail(b"standard input");
-        return;
+    if let Some(e) = taken.failure {
+        return tell(rt, "standard input", e);
     }
     if count == ROOM {
-        io::write_all(
-            STDERR_FILENO,
-            b"standard input: at most 65,536 bytes are listed\n",
-        );
-        return;
+        return eprintln!(rt; "standard input: at most 65,536 bytes are listed");
     }
     let mut text = [0u8; TEXT_ROOM];
-    list_within(&bytes[0..count], start, &mut text);
+    list_within(rt, &bytes[0..count], start, &mut text)
 }
 
-fn main() {
-    match told() {
-        Start::At(address) => list_input(address),
+fn main(rt: HostRuntime) -> io::Result<()> {
+    match told(&rt) {
+        Start::At(address) => list_input(&rt, address),
         Start::Nowhere => {
-            io::write_all(
-                STDERR_FILENO,
-                b"usage: lister START <BYTES >TEXT, START in four hexadecimal digits\n",
-            );
+            eprintln!(rt; "usage: lister START <BYTES >TEXT, START in four hexadecimal digits")
         }
     }
 }

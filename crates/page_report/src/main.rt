@@ -4,16 +4,25 @@
 
 ghost use Rattle.std.specs.Prelude.{length, ◌≤◌};
 
-use libc::{STDIN_FILENO, STDOUT_FILENO};
 use rules::{CountAnswer, Counting};
+use std::env::{Env, FillError};
+use std::fs::{File, Files};
+use std::io;
+use std::io::Read;
 
 const BLOCK: usize = 65536;
+
+// The room for a file's name. The system opens none that is longer.
+const NAME: usize = 4096;
+
+// The system's number for a name that is too long.
+const ENAMETOOLONG: i32 = 36;
 
 // So many bytes were read, before the input ended or a read failed.
 #[derive(Clone, Copy)]
 struct Filled {
     count: usize,
-    failed: bool,
+    failure: Option<io::Error>,
 }
 
 // The counts with what was read, and whether there may be more of it.
@@ -21,150 +30,175 @@ struct Filled {
 struct Taken {
     counts: Counting,
     more: bool,
-    failed: bool,
-}
-
-fn read_once(fd: i32, buffer: &mut [u8]) -> Filled
-    ensures { result.count ≤ length buffer.new }
-{
-    let got = libc::read(fd, buffer);
-    Filled {
-        count: io::count(got, buffer),
-        failed: got < 0,
-    }
+    failure: Option<io::Error>,
 }
 
 // Reads until the buffer is full. So no record is cut by the end of a block, unless the input ends there.
-fn fill(fd: i32, buffer: &mut [u8]) -> Filled
+fn fill(input: &mut impl Read, buffer: &mut [u8]) -> Filled
     ensures { result.count ≤ length buffer.new }
 {
     let mut done = 0;
     while done < buffer.len() {
-        let filled = read_once(fd, &mut buffer[done..]);
-        let n = filled.count;
-        let failed = filled.failed;
-        if n == 0 {
-            return Filled {
-                count: done,
-                failed: failed,
-            };
+        match input.read(&mut buffer[done..]) {
+            Ok(n) => {
+                if n == 0 {
+                    break;
+                }
+                done += n;
+            }
+            Err(e) => {
+                return Filled {
+                    count: done,
+                    failure: Some(e),
+                };
+            }
         }
-        done = done + n;
     }
     Filled {
         count: done,
-        failed: false,
+        failure: None,
     }
 }
 
-fn take_block(fd: i32, counts: Counting) -> Taken {
+fn take_block(input: &mut impl Read, counts: Counting) -> Taken {
     let mut buffer = [0u8; BLOCK];
-    let filled = fill(fd, &mut buffer);
+    let filled = fill(input, &mut buffer);
     let count = filled.count;
-    let failed = filled.failed;
     Taken {
         counts: pages::next(counts, &buffer[0..count]),
         more: count == BLOCK,
-        failed: failed,
+        failure: filled.failure,
     }
 }
 
-// A proved loop has to end, and nothing says that the input does. So it counts its turns down, from a number that no run uses up.
-fn take_list(fd: i32, counts: Counting) -> Taken {
-    let mut taken = take_block(fd, counts);
-    let mut turns = u64::MAX;
-    while turns > 0 {
-        if !taken.more {
-            return taken;
+// A proved loop has to end, and nothing says that the input does. So its turns are counted, to a number that no run reaches.
+fn take_list(input: &mut impl Read, counts: Counting) -> io::Result<Counting> {
+    let mut so_far = counts;
+    for _ in 0..u64::MAX {
+        let taken = take_block(input, so_far);
+        if let Some(e) = taken.failure {
+            return Err(e);
         }
-        let so_far = taken.counts;
-        taken = take_block(fd, so_far);
-        turns -= 1;
+        so_far = taken.counts;
+        if !taken.more {
+            break;
+        }
     }
-    taken
+    Ok(so_far)
 }
 
-// The list in the file that argument i names.
-fn take_file(i: usize, counts: Counting) -> Taken {
-    let mut path = io::buffer();
-    let length = os::arg(i, &mut path);
-    if os::errno() != 0 {
-        os::fail(b"a file's name");
-        return Taken {
-            counts: counts,
-            more: false,
-            failed: true,
-        };
+// The list in the file of this name.
+fn take_file(rt: &impl Files, name: &str, counts: Counting) -> io::Result<Counting> {
+    let mut file = File::open(rt, name)?;
+    take_list(&mut file, counts)
+}
+
+// What failed, and why: in the system's words, without the number that std puts behind them.
+fn tell(rt: &(impl Eprint + Alloc), what: &str, e: io::Error) -> io::Result<()> {
+    let said = e.to_string(rt.alloc())?;
+    match said.as_str().split_once(" (os error ") {
+        Some((reason, _number)) => eprintln!(rt; "{what}: {reason}"),
+        None => eprintln!(rt; "{what}: {said}"),
     }
-    let fd = os::open_read(&path[..length]);
-    if fd < 0 {
-        os::fail(&path[..length]);
-        return Taken {
-            counts: counts,
-            more: false,
-            failed: true,
-        };
+}
+
+// The counts, or nothing where what they are taken from cannot be read, which is told.
+fn or_tell(
+    rt: &(impl Eprint + Alloc),
+    what: &str,
+    counts: io::Result<Counting>,
+) -> io::Result<Option<Counting>> {
+    match counts {
+        Ok(counts) => Ok(Some(counts)),
+        Err(e) => {
+            tell(rt, what, e)?;
+            Ok(None)
+        }
     }
-    let taken = take_list(fd, counts);
-    if taken.failed {
-        os::fail(&path[..length]);
+}
+
+// The list in the file of this name, or nothing where it cannot be read, which is told. The library's paths are UTF-8, so a file of
+// another name is none that can be read.
+fn take_named(
+    rt: &(impl Files + Eprint + Alloc),
+    name: &[u8],
+    counts: Counting,
+) -> io::Result<Option<Counting>> {
+    match str::from_utf8(name) {
+        Ok(name) => or_tell(rt, name, take_file(rt, name, counts)),
+        Err(_e) => {
+            eprintln!(rt; "a file's name: it must be UTF-8")?;
+            Ok(None)
+        }
     }
-    libc::close(fd);
-    taken
 }
 
 fn is_counted(counts: Counting) -> bool {
-    let answer = counts.answer;
-    match answer {
+    match counts.answer {
         CountAnswer::Counted => true,
         CountAnswer::Uncounted(_) => false,
     }
 }
 
 // The files in the order of the arguments, to the first that cannot be read or counted.
-fn take_files(count: usize, counts: Counting) -> Taken {
-    let mut taken = Taken {
-        counts: counts,
-        more: false,
-        failed: false,
-    };
-    let mut i = 1;
-    while i < count {
-        let so_far = taken.counts;
-        taken = take_file(i, so_far);
-        if taken.failed {
-            return taken;
+fn take_files(rt: &(impl Env + Files + Eprint + Alloc)) -> io::Result<Option<Counting>> {
+    let mut name = [0u8; NAME];
+    let mut counts = pages::none();
+    for i in 1..usize::MAX {
+        match rt.arg(i, &mut name) {
+            Ok(size) => match take_named(rt, &name[..size], counts)? {
+                Some(taken) => {
+                    counts = taken;
+                    if !is_counted(counts) {
+                        break;
+                    }
+                }
+                None => return Ok(None),
+            },
+            Err(FillError::TooLong) => {
+                tell(
+                    rt,
+                    "a file's name",
+                    io::Error::from_raw_os_error(ENAMETOOLONG),
+                )?;
+                return Ok(None);
+            }
+            Err(FillError::NotPresent) => break,
         }
-        let now_counted = taken.counts;
-        if !is_counted(now_counted) {
-            return taken;
-        }
-        i += 1;
     }
-    taken
+    Ok(Some(counts))
 }
 
-fn take_input() -> Taken {
-    let count = os::arg_count();
-    if 1 < count {
-        return take_files(count, pages::none());
+fn has_files(rt: &impl Env) -> bool {
+    match rt.arg(1, &mut []) {
+        Err(FillError::NotPresent) => false,
+        _ => true,
     }
-    let taken = take_list(STDIN_FILENO, pages::none());
-    if taken.failed {
-        os::fail(b"standard input");
-    }
-    taken
 }
 
-fn main() {
-    let taken = take_input();
-    if taken.failed {
-        return;
+fn take_input(rt: &(impl Env + Files + Input + Eprint + Alloc)) -> io::Result<Option<Counting>> {
+    if has_files(rt) {
+        return take_files(rt);
     }
-    let counts = taken.counts;
+    or_tell(
+        rt,
+        "standard input",
+        take_list(&mut rt.reader(), pages::none()),
+    )
+}
+
+fn give(rt: &(impl Print + Eprint + Alloc), counts: Counting) -> io::Result<()> {
     let mut text = [0u8; 11543];
     let n = report::print(counts, &mut text);
-    if !io::write_all(STDOUT_FILENO, &text[0..n]) {
-        os::fail(b"standard output");
+    match rt.write_all(&text[0..n]) {
+        Ok(()) => Ok(()),
+        Err(e) => tell(rt, "standard output", e),
+    }
+}
+
+fn main(rt: HostRuntime) -> io::Result<()> {
+    match take_input(&rt)? {
+        Some(counts) => give(&rt, counts),
+        None => Ok(()),
     }
 }

@@ -39,8 +39,7 @@ fn append_at(size: u64) -> AppendAnswer
     AppendAnswer::Full(Refusal::FileLength)
 }
 
-#[unsafe(no_mangle)]
-pub extern "C" fn wankitare_restart(file: &[u8]) -> u64
+pub fn wankitare_restart(file: &[u8]) -> u64
     ensures { result ≡ restart_word (restart file.now) }
 {
     match restart(file) {
@@ -53,8 +52,7 @@ pub extern "C" fn wankitare_restart(file: &[u8]) -> u64
     }
 }
 
-#[unsafe(no_mangle)]
-pub extern "C" fn wankitare_append_at(file_len: u64) -> u64
+pub fn wankitare_append_at(file_len: u64) -> u64
     ensures { result ≡ append_word (append_at file_len) }
 {
     match append_at(file_len) {

@@ -2,12 +2,30 @@
 
 #![tactic(auto)]
 
-use libc::{STDIN_FILENO, STDOUT_FILENO};
+ghost use Rattle.std.specs.Prelude.{length, ◌≤◌, IfOk};
 
-fn main() {
+use std::io;
+use std::io::{Read, Write};
+
+// Reads until the buffer is full, or the input ends.
+fn fill(input: &mut impl Read, buffer: &mut [u8]) -> io::Result<usize>
+    ensures { IfOk result (λ count. count ≤ length buffer.new) }
+{
+    let mut done = 0;
+    while done < buffer.len() {
+        let n = input.read(&mut buffer[done..])?;
+        if n == 0 {
+            break;
+        }
+        done += n;
+    }
+    Ok(done)
+}
+
+fn main(rt: HostRuntime) -> io::Result<()> {
     let mut input = [0u8; 65555];
-    let n = io::read_full(STDIN_FILENO, &mut input);
+    let n = fill(&mut rt.stdin(), &mut input)?;
     let mut printed = [0u8; 137];
     let count = text::print(&mut input[0..n], &mut printed);
-    io::write_all(STDOUT_FILENO, &printed[0..count]);
+    rt.stdout().write_all(&printed[0..count])
 }
