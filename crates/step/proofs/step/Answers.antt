@@ -1,0 +1,24 @@
+use denote.Slice.{shr_slice_at}
+use Rattle.step.proofs.Finish.{closes, closes_unfit, closes_full, begins, again, sized}
+use borrow.Author.Tests.{not-true, not-false}
+use Rattle.std.proofs.Common.{sym, refl, ◌∙◌, arith, rules}
+use Rattle.step.proofs.step.Goals as goal
+
+pub returns-then-not-lines_fit : goal.returns-then-not-lines_fit
+returns-then-not-lines_fit c =
+    let unfit = sym c.lines_fit.ensures ∙ c.if-not-lines_fit.true in
+    rw c.refusal_word.ensures (closes_unfit _ _ _ _ _ c.requires unfit)
+
+pub returns-then-list-lt56 : goal.returns-then-list-lt56
+returns-then-list-lt56 c =
+    let fit = sym c.lines_fit.ensures ∙ c.if-not-lines_fit.false in
+    rw c.refusal_word-then-list-lt56.ensures (closes_full _ _ _ _ _ c.requires fit c.if-list-lt56.true)
+
+pub returns : goal.returns
+returns c =
+    let f = c.requires in
+    let room = c.if-list-lt56.false in
+    let fit = sym c.lines_fit.ensures ∙ c.if-not-lines_fit.false in
+    let b = begins _ c.args.pins _ f.whole (λ j. (c.slice_known-1.given j).fits) f.formed f.image in
+    let done = c.answer.ensures _ _ _ _ _ (again b) room (c.take-count.ensures.1 _ b) in
+    closes _ _ _ _ _ f fit room b.bytes (rw (c.event_in-event.ensures _ b.bytes) at done)
