@@ -1,0 +1,31 @@
+use Prim.Native.Nat.{ℕ, ◌+◌, ◌-◌, ◌*◌, ◌%◌, ◌≤◌, ◌<◌}
+use native.Mathlib.Omega.{arith}
+use mathlib.Core.Path.{◌≡◌, refl, sym, ap, ◌∙◌}
+use mathlib.Core.List.{List}
+use lib.ListN.{length, drop}
+use Rattle.rules.specs.Bus.{images}
+use Rattle.rules.specs.Run.{start, play}
+use Rattle.laws.proofs.Lists.{rest_back}
+use Rattle.checks.specs.Checks.{Fits}
+use Rattle.rules.specs.Step.{worded}
+use Rattle.run.specs.Plays.{standing}
+use Rattle.run.specs.Words.{tallied}
+use Rattle.run.proofs.Plays.{lent, told_stepped, told_refused, goes_on, still_fits, still_room, stops, ends}
+use borrow.Author.Rules.{rules}
+use Rattle.run.proofs.play.Given as goal
+
+pub record Running (state₀ image₀ script accesses₀ state image accesses : List ℕ) (i listed : ℕ) : Type 0 where
+  pub even : i % 2 ≡ 0
+  pub within : i ≤ length script
+  pub fits : Fits state image
+  pub room : 8 * listed ≤ length accesses
+  pub state_size : length state ≡ length state₀
+  pub image_size : length image ≡ length image₀
+  pub accesses_size : length accesses ≡ length accesses₀
+  pub plays : play images script (start state₀ image₀ accesses₀) ≡ play images (drop i script) (standing i listed state image accesses)
+
+abbrev pub invariant-loop-i : goal.invariant-loop-i
+invariant-loop-i l = Running l.initial.state l.initial.image l.script l.initial.accesses l.state l.image l.accesses l.i l.listed
+
+abbrev pub decreases-loop-i : goal.decreases-loop-i
+decreases-loop-i l = length l.script - l.i
