@@ -9,7 +9,7 @@ use borrow.Author.Tests.{eqb-true, leb-true, lt-ltb, le-ltb, le-leb}
 use lib.Dec.{ltb, leb, eqb}
 use lib.ListN.{length, take, drop, length-append, length-drop, take-append-drop}
 use lib.Seq.{get_or-drop, length-take-le, take-append_seam}
-use Rattle.rules.specs.Basics.{if◌then◌else◌, all, at, sum16}
+use Rattle.rules.specs.Basics.{when◌then◌else◌, all, at, sum16}
 use Rattle.rules.specs.Opcodes.{Entry, decode, size_of, is_defined, instruction_of}
 use Rattle.rules.specs.Operations.{target}
 use Rattle.rules.specs.Step.{front}
@@ -429,7 +429,7 @@ module _ (start room : ℕ) where
       le-leb (length before + length part) room (omega (arith, size-part, size.1)) in
       ap (lines start room n before) text
       ∙ one.makes room n before go_on
-      ∙ ap (λ (t : Bool). if t then go_on (before ++ part) else wrong Fault.NoRoom n) room-here
+      ∙ ap (λ (t : Bool). when t then go_on (before ++ part) else wrong Fault.NoRoom n) room-here
       ∙ later (suc n) (before ++ part) rest' (omega (arith, size-rest, size.0)) (bytes_behind all l.size small)
       (omega (arith, size-rest, size-part, size.1, length-append before part))
       ∙ ap made (append_assoc before part rest' ∙ ap (λ (t : List ℕ). before ++ t) (take-append-drop l.size all))
