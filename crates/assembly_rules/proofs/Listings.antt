@@ -1,6 +1,6 @@
 -- What is listed, line by line: how long lines are and how many bytes they are of, and that a text is its first line and the text of what
 -- follows.
-use Prim.Native.Nat.{ℕ, zero, suc, ◌+◌, ◌≤◌, ◌<◌}
+use Prim.Native.Nat.{ℕ, zero, suc, ◌≤◌, ◌<◌}
 use Prim.Native.Char.{code}
 use native.Mathlib.Nat.{not-suc-le-zero}
 use native.Mathlib.Omega.{arith}
@@ -13,7 +13,6 @@ use lib.ListN.{length, drop, length-append, length-drop}
 use Rattle.rules.specs.Basics.{at, sum16}
 use Rattle.rules.specs.Opcodes.{Entry, undefined, alone, byte, word, late, decode, size_of, is_defined, instruction_of}
 use Rattle.laws.proofs.Tests.{and_right, if_case, if_both}
-use Rattle.assembly_rules.proofs.Cases.{texts, faults, listings}
 use Rattle.assembly_rules.specs.declared.Shape.{Shape}
 use Rattle.assembly_rules.specs.declared.Shape.TheVariants as shape
 use Rattle.assembly_rules.specs.Mnemonics.{shape_of}

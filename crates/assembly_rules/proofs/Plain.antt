@@ -1,14 +1,13 @@
 -- Text of plain characters: no control, no comment, no square bracket. It is one line, and it is its content.
-use Prim.Native.Nat.{ℕ, ◌+◌, ◌-◌, ◌<◌}
+use Prim.Native.Nat.{ℕ, ◌<◌}
 use mathlib.Core.Path.{◌≡◌, refl, sym, ap}
 use mathlib.Core.Bool.{Bool, true, false, ◌&&◌, not}
 use mathlib.Core.List.{List, [], ◌∷◌, ◌++◌}
 use borrow.Author.Tests.{eqb-true}
 use lib.Dec.{eqb}
-use Rattle.rules.specs.Basics.{if◌then◌else◌, all}
+use Rattle.rules.specs.Basics.{all}
 use Rattle.rules.specs.Text.{digit}
 use Rattle.laws.proofs.Tests.{and_left, and_right, all_at}
-use Rattle.assembly_rules.proofs.Cases.{texts, faults, listings}
 use Rattle.assembly_rules.specs.Characters.{place, is_space}
 use Rattle.assembly_rules.specs.Lines.{content, too_deep, written, line_of}
 use Rattle.assembly_rules.specs.Assembly.{onto, lines_of}

@@ -423,7 +423,8 @@ module _ (start room : ℕ) where
       let text : lines_of (text_of a all) ≡ l.text ∷ lines_of (text_of (sum16 start (length (before ++ part))) rest') =
       ap lines_of (text_first a all (omega arith)) ∙ lines_plain l.text (text_of (sum16 a l.size) rest') one.plain
       ∙ ap (λ (o : ℕ). l.text ∷ lines_of (text_of o rest')) next in
-      let go_on : List ℕ → Made = λ bytes. lines start room (suc n) bytes (lines_of (text_of (sum16 start (length (before ++ part))) rest')) in
+      let go_on : List ℕ → Made =
+      λ bytes. lines start room (suc n) bytes (lines_of (text_of (sum16 start (length (before ++ part))) rest')) in
       let room-here : leb (length before + length part) room ≡ true =
       le-leb (length before + length part) room (omega (arith, size-part, size.1)) in
       ap (lines start room n before) text

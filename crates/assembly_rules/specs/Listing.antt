@@ -11,7 +11,6 @@ use Rattle.assembly_rules.specs.declared.Shape.{Shape}
 use Rattle.assembly_rules.specs.declared.Shape.TheVariants as shape
 use Rattle.assembly_rules.specs.declared.Fault.TheVariants.{NoRoom}
 use Rattle.assembly_rules.specs.declared.Listing.{Listing}
-use Rattle.assembly_rules.specs.declared.Listing.TheVariants as Listing
 use Rattle.assembly_rules.specs.Characters.{said}
 use Rattle.assembly_rules.specs.Mnemonics.{name_of, shape_of}
 use Rattle.assembly_rules.specs.Assembly.{number_of, told, Words}

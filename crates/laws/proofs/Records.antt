@@ -18,7 +18,8 @@ use Rattle.rules.specs.Flags.{byte_of, flags_of}
 use Rattle.rules.specs.declared.Event.{Event}
 use Rattle.rules.specs.declared.Event.TheVariants.{Res, Nmi, Irq, Execute}
 use Rattle.rules.specs.Interrupts.{nmi_of, cycles_of}
-use Rattle.rules.specs.Bus.{is6502, is6508, is6509, Memory, World, world, narrow, first, second, of_image, cell_of, image_at, selected, kept}
+use Rattle.rules.specs.Bus.{is6502, is6508, is6509, Memory, World, world, narrow, first, second, of_image, cell_of, image_at, selected}
+use Rattle.rules.specs.Bus.{kept}
 use Rattle.rules.specs.Bus.{stored, is_protected, reset_bus, board}
 use Rattle.rules.specs.Record.{long, state_of, record_of, well_formed, part_fits, flags_fit, register_fits, level_fits, pages_fit}
 use Rattle.rules.specs.Step.{lines_fit, bus_at, ran_of}

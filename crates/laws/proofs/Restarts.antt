@@ -33,7 +33,8 @@ append_place n p =
 pub found_place : (file : List ℕ) (p t : ℕ) → restart file ≡ Found p t → (p ≡ last_of (length file)) × (t ≡ length file % 16)
 unfolding restart
 found_place file p t =
-    tested_case (λ (a : RestartAnswer). a ≡ Found p t → (p ≡ last_of (length file)) × (t ≡ length file % 16)) (restart_tests file) NotFound _
+    tested_case (λ (a : RestartAnswer). a ≡ Found p t → (p ≡ last_of (length file)) × (t ≡ length file % 16)) (restart_tests file)
+    NotFound _
     (λ d h. let z : ◌≡◌ {A = ℕ} 0 1 = cc in absurd (omega arith))
     (λ hs h. (cc, cc))
 

@@ -252,7 +252,8 @@ refusals =
     ∷ eqb (restart_word (restart (replicate 15 2))) 8
     ∷ eqb (restart_word (restart (replicate 16 2))) 2
     ∷ eqb (restart_word (restart (replicate 32 2 ++ state 2 0 0 0 0x20 0x8000 ++ replicate 5 2))) (256 * 5 + 65536 * 32)
-    ∷ same (append_word (append_at 21) ∷ append_word (append_at 65535) ∷ append_word (append_at 65536) ∷ []) (65536 * 16 ∷ 65536 * 65520 ∷ 8 ∷ [])
+    ∷ same (append_word (append_at 21) ∷ append_word (append_at 65535) ∷ append_word (append_at 65536) ∷ [])
+    (65536 * 16 ∷ 65536 * 65520 ∷ 8 ∷ [])
     -- 22 "no byte moves"
     ∷ (let o = step charts (state 2 7 0 0 0x20 0x8000) (zeros 1) 8 0 (replicate 56 9) in
     same o.state (state 2 7 0 0 0x20 0x8000) && same o.accesses (replicate 56 9))

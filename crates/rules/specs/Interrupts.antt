@@ -5,7 +5,7 @@ use Rattle.rules.specs.declared.Event.{Event}
 use Rattle.rules.specs.declared.Event.TheVariants.{Res, Nmi, Irq, Execute}
 use Rattle.rules.specs.declared.Purpose.TheVariants.{Wasted, Stack}
 use Rattle.rules.specs.Basics.{if◌then◌else◌, bit_of}
-use Rattle.rules.specs.Cycles.{Cycles, ◌>>=◌, ◌>>◌}
+use Rattle.rules.specs.Cycles.{Cycles, ◌>>◌}
 use Rattle.rules.specs.Flags.{byte_of}
 use Rattle.rules.specs.Addressing.{get, put}
 use Rattle.rules.specs.Operations.{stack, down, push_pc, enter, instruction}

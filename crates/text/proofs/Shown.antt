@@ -32,7 +32,8 @@ pub step_shown : (n p : ℕ) (r l t u v w : List ℕ) → n ≤ 7 → 137 ≤ le
 step_shown n p r l t u v w few room a e b d =
     let lines = each n (line_of l) in
     let wide = each_length (line_of l) 14 (line_length l) n in
-    let size : length (lines ++ count_line n ++ record_line r) ≡ p + 35 = rw (length-append, length-append, record_length r) (omega arith) in
+    let size : length (lines ++ count_line n ++ record_line r) ≡ p + 35 =
+    rw (length-append, length-append, record_length r) (omega arith) in
     let i : 14 * n ≡ 0 + length lines = omega arith in
     let j : p ≡ 0 + length (lines ++ count_line n) = rw length-append (omega arith) in
     record {

@@ -1,5 +1,4 @@
 use borrow.Author.Tests.{eq-eqb, ne_eqb}
-use borrow.Author.Rules.{rules}
 use Rattle.decode.specs.Fields.{by_fields}
 use Rattle.decode.proofs.by_fields.Goals as goal
 

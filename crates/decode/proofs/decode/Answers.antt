@@ -1,5 +1,4 @@
 use mathlib.Core.Path.{◌∙◌}
-use borrow.Author.Rules.{rules}
 use Rattle.decode.proofs.Decodes.{fields_say}
 use Rattle.decode.proofs.decode.Goals as goal
 

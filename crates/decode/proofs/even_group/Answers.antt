@@ -1,5 +1,4 @@
 use borrow.Author.Tests.{eq-eqb, ne_eqb, lt-ltb, le-ltb}
-use borrow.Author.Rules.{rules}
 use Rattle.decode.specs.Fields.{even_group}
 use Rattle.decode.proofs.even_group.Goals as goal
 

@@ -1,5 +1,4 @@
 use borrow.Author.Tests.{eq-eqb, ne_eqb}
-use borrow.Author.Rules.{rules}
 use Rattle.decode.specs.Fields.{group_one}
 use Rattle.decode.proofs.group_one.Goals as goal
 

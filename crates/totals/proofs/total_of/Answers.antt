@@ -1,12 +1,11 @@
-use Prim.Native.Nat.{ℕ, ◌+◌, ◌*◌, ◌≤◌, ◌-◌}
+use Prim.Native.Nat.{ℕ, ◌+◌, ◌*◌, ◌≤◌}
 use native.Mathlib.Numerals.{add-one}
 use native.Mathlib.Omega.{arith}
 use mathlib.Core.Path.{◌≡◌, refl}
 use mathlib.Core.List.{List}
-use borrow.Author.Rules.{rules}
-use lib.ListN.{length, take}
+use lib.ListN.{length}
 use Rattle.rules.specs.Pages.{sum}
-use Rattle.totals.proofs.Sums.{sum_more, sum_all, fits, passes}
+use Rattle.totals.proofs.Sums.{sum_more, sum_all}
 use Rattle.totals.proofs.total_of.Invariants.{Summed}
 use Rattle.totals.proofs.total_of.Goals as goal
 

@@ -1,12 +1,8 @@
 use Prim.Native.Nat.{ℕ, ◌+◌, ◌*◌, ◌≤◌, ◌-◌}
-use native.Mathlib.Numerals.{add-one}
-use native.Mathlib.Omega.{arith}
-use mathlib.Core.Path.{◌≡◌, refl}
+use mathlib.Core.Path.{◌≡◌}
 use mathlib.Core.List.{List}
-use borrow.Author.Rules.{rules}
-use lib.ListN.{length, take}
+use lib.ListN.{take}
 use Rattle.rules.specs.Pages.{sum}
-use Rattle.totals.proofs.Sums.{sum_more, sum_all, fits, passes}
 use Rattle.totals.proofs.total_of.Given as goal
 
 pub record Summed (reads writes : List ℕ) (high low k : ℕ) : Type 0 where

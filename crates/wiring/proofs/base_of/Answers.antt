@@ -1,6 +1,4 @@
-use native.Mathlib.Omega.{arith}
 use Rattle.wiring.proofs.Banks.{base_is, base_fits}
-use borrow.Author.Rules.{rules}
 use Rattle.wiring.proofs.base_of.Goals as goal
 
 pub returns : goal.returns

@@ -2,7 +2,6 @@ use mathlib.Core.Path.{◌≡◌, refl}
 use borrow.Author.Tests.{ne_eqb}
 use Rattle.rules.specs.Bus.{selected}
 use Rattle.rules.specs.Record.{record_of}
-use borrow.Author.Rules.{rules}
 use Rattle.wiring.proofs.indirect.Goals as goal
 
 pub returns-then-state-eq9 : goal.returns-then-state-eq9

@@ -3,7 +3,6 @@ use borrow.Author.Tests.{ne_eqb}
 use Rattle.rules.specs.Bus.{selected}
 use Rattle.rules.specs.Record.{record_of}
 use Rattle.wiring.proofs.Plain.{plain_is}
-use borrow.Author.Rules.{rules}
 use Rattle.wiring.proofs.wire.Goals as goal
 
 pub returns-then-part-eq9 : goal.returns-then-part-eq9

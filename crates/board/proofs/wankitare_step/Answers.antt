@@ -1,0 +1,9 @@
+use Rattle.step.proofs.Finish.{closes_refused}
+use Rattle.checks.proofs.Fits.{fits}
+use mathlib.Core.Path.{sym, ◌∙◌}
+use borrow.Author.Rules.{rules}
+use Rattle.board.proofs.wankitare_step.Goals as goal
+
+pub returns-in-Refused : goal.returns-in-Refused
+returns-in-Refused c =
+    rw c.refusal_word.ensures (closes_refused _ _ _ _ _ _ (sym c.in-Refused.is ∙ c.fit.ensures))
