@@ -2,7 +2,8 @@
 
 #![tactic(auto)]
 
-ghost use Rattle.std.specs.Prelude.{◌≤◌, length};
+ghost use Rattle.std.specs.Prelude.{◌<◌, ◌≤◌, length, take, IsNone};
+ghost use Rattle.std.specs.Io.KnownBytes.{Consumes, IsAtEnd};
 
 use assembly_rules::Listing;
 use operands::Found;
@@ -60,16 +61,21 @@ fn told(rt: &impl Env) -> Start {
     }
 }
 
-// Reads until the buffer is full, or the input ends.
-fn fill(input: &mut impl Read, buffer: &mut [u8]) -> Filled
-    ensures { result.count ≤ length buffer.new }
+// Reads until the buffer is full, the input ends or a read fails.
+fn fill<R: Read>(input: &mut R, buffer: &mut [u8]) -> Filled
+    ensures in_bounds { result.count ≤ length buffer.new }
+    ensures bytes { Consumes (R.remaining input.old) (R.remaining input.new) (take result.count buffer.new) }
+    ensures end { result.count < length buffer.new → IsNone result.failure → IsAtEnd (R.remaining input.new) }
 {
     let mut done = 0;
     while done < buffer.len() {
         match input.read(&mut buffer[done..]) {
             Ok(n) => {
                 if n == 0 {
-                    break;
+                    return Filled {
+                        count: done,
+                        failure: None,
+                    };
                 }
                 done += n;
             }
