@@ -314,21 +314,21 @@ module _ (bytes : List ℕ) where
   takes shape.Indirect h = takes_three bytes h
 
 module _ (room n : ℕ) (before : List ℕ) (go_on : List ℕ → Made) where
-  judged_for : (s : Shape) (opcode low high : ℕ) →
-      judged room n before go_on (line_for s opcode low high) ≡ fitted room n before go_on (bytes_for s opcode low high)
-  judged_for shape.Implied opcode low high = refl
-  judged_for shape.Accumulator opcode low high = refl
-  judged_for shape.Immediate opcode low high = refl
-  judged_for shape.Zero opcode low high = refl
-  judged_for shape.ZeroX opcode low high = refl
-  judged_for shape.ZeroY opcode low high = refl
-  judged_for shape.IndirectX opcode low high = refl
-  judged_for shape.IndirectY opcode low high = refl
-  judged_for shape.Relative opcode low high = refl
-  judged_for shape.Absolute opcode low high = refl
-  judged_for shape.AbsoluteX opcode low high = refl
-  judged_for shape.AbsoluteY opcode low high = refl
-  judged_for shape.Indirect opcode low high = refl
+  judged_for : (s : Shape) (opcode second third : ℕ) →
+      judged room n before go_on (line_for s opcode second third) ≡ fitted room n before go_on (bytes_for s opcode second third)
+  judged_for shape.Implied opcode second third = refl
+  judged_for shape.Accumulator opcode second third = refl
+  judged_for shape.Immediate opcode second third = refl
+  judged_for shape.Zero opcode second third = refl
+  judged_for shape.ZeroX opcode second third = refl
+  judged_for shape.ZeroY opcode second third = refl
+  judged_for shape.IndirectX opcode second third = refl
+  judged_for shape.IndirectY opcode second third = refl
+  judged_for shape.Relative opcode second third = refl
+  judged_for shape.Absolute opcode second third = refl
+  judged_for shape.AbsoluteX opcode second third = refl
+  judged_for shape.AbsoluteY opcode second third = refl
+  judged_for shape.Indirect opcode second third = refl
 
 module _ (a : ℕ) (bytes : List ℕ) (small : Bytes bytes) (some : 0 < length bytes) where
   abbrev entry : Entry

@@ -42,8 +42,8 @@ word_line m s v = when has m s then Three (opcode_of m s) (v % 256) (v / 256) el
 -- "A value under 256 takes the zero-page form where the operation has one; an address written with four digits alone takes the absolute
 -- form."
 abbrev pub address_line : ℕ → Shape → Shape → ℕ → Bool → Line
-address_line m zero absolute v true = word_line m absolute v
-address_line m zero absolute v false = when ltb v 256 && has m zero then Two (opcode_of m zero) v else word_line m absolute v
+address_line m short wide v true = word_line m wide v
+address_line m short wide v false = when ltb v 256 && has m short then Two (opcode_of m short) v else word_line m wide v
 
 -- "Branch operands are target addresses": the offset from the next instruction's address, "branch too far" where it is no signed byte
 abbrev pub branch_line : ℕ → ℕ → ℕ → Line
