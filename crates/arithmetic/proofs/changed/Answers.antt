@@ -1,6 +1,5 @@
 use Rattle.arithmetic.proofs.Laws.{doubled, lowered}
 use Rattle.rules.specs.Arithmetic.{changed}
-use Rattle.std.proofs.Common.{rules}
 use Rattle.arithmetic.proofs.changed.Goals as goal
 
 pub returns-in-Asl : goal.returns-in-Asl

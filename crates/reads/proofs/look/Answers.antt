@@ -1,6 +1,5 @@
 use mathlib.Core.Path.{sym, ◌∙◌}
 use Rattle.reads.proofs.Held.{look_low, look_plain}
-use borrow.Author.Rules.{rules}
 use Rattle.reads.proofs.look.Goals as goal
 
 pub returns-then-a-w : goal.returns-then-a-w

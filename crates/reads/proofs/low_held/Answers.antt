@@ -3,7 +3,6 @@ use native.Mathlib.Omega.{arith}
 use mathlib.Core.Path.{◌≡◌}
 use borrow.Author.Tests.{eq-eqb, ne_eqb}
 use Rattle.rules.specs.Record.{record_of}
-use borrow.Author.Rules.{rules}
 use Rattle.reads.proofs.low_held.Goals as goal
 
 -- the one address that is left below 2

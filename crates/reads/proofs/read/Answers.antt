@@ -1,6 +1,4 @@
 use Rattle.laws.proofs.Goes.{reads}
-use borrow.Author.Rules.{rules}
-use Rattle.reads.proofs.read.Reads as own
 use Rattle.reads.proofs.read.Goals as goal
 
 pub returns : goal.returns

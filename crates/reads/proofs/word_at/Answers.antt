@@ -1,7 +1,6 @@
 use Rattle.laws.proofs.Goes.{ended, then_read, counted}
 use Rattle.rules.specs.Cycles.{execution, ◌>>=◌}
 use native.Mathlib.Omega.{arith}
-use borrow.Author.Rules.{rules}
 use Rattle.reads.proofs.word_at.Goals as goal
 
 pub returns : goal.returns

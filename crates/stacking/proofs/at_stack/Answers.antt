@@ -1,4 +1,4 @@
-use Rattle.std.proofs.Common.{◌∙◌, arith, rules}
+use Rattle.std.proofs.Common.{◌∙◌, arith}
 use Rattle.state.proofs.Registers.{holds}
 use Rattle.stacking.proofs.at_stack.Goals as goal
 

@@ -1,5 +1,5 @@
 use Rattle.laws.specs.States.{moved}
-use Rattle.std.proofs.Common.{refl, rules}
+use Rattle.std.proofs.Common.{refl}
 use Rattle.laws.proofs.Goes.{does, ended, then_call}
 use Rattle.rules.specs.Cycles.{done, ◌>>=◌}
 use Rattle.rules.specs.Basics.{sum8}

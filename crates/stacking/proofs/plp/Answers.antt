@@ -4,7 +4,6 @@ use Rattle.rules.specs.Basics.{sum8}
 use Rattle.rules.specs.Flags.{flags_of}
 use Rattle.rules.specs.Operations.{pull, with_p, with_s}
 use Rattle.state.proofs.Registers.{holds, makes_s, makes_p}
-use Rattle.std.proofs.Common.{rules}
 use Rattle.stacking.proofs.plp.Goals as goal
 
 pub returns : goal.returns

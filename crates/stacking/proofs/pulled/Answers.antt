@@ -1,6 +1,5 @@
 use Rattle.laws.proofs.Goes.{then_read}
 use Rattle.rules.specs.Cycles.{execution, ◌>>=◌}
-use Rattle.std.proofs.Common.{rules}
 use Rattle.stacking.proofs.pulled.Goals as goal
 
 pub returns : goal.returns

@@ -2,7 +2,6 @@ use Rattle.laws.proofs.Goes.{does, ended, then_write}
 use Rattle.rules.specs.Cycles.{execution, ◌>>=◌}
 use Rattle.rules.specs.Operations.{push}
 use Rattle.state.proofs.Registers.{holds, makes_s}
-use Rattle.std.proofs.Common.{rules}
 use Rattle.stacking.proofs.push.Goals as goal
 
 pub returns : goal.returns

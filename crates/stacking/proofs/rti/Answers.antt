@@ -1,4 +1,3 @@
-use Rattle.std.proofs.Common.{◌∙◌, rules}
 use Rattle.rules.specs.declared.Purpose.TheVariants.{Stack}
 use Rattle.rules.specs.Addressing.{word_at}
 use Rattle.rules.specs.Operations.{stack, rti, with_pc, with_p, with_s}

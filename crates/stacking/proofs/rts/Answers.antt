@@ -4,7 +4,6 @@ use Rattle.rules.specs.Basics.{sum8, sum16}
 use Rattle.rules.specs.Operations.{with_s, with_pc, rts}
 use Rattle.laws.proofs.Goes.{does, ended, then_read, then_call}
 use Rattle.state.proofs.Registers.{holds}
-use Rattle.std.proofs.Common.{rules}
 use Rattle.stacking.proofs.rts.Goals as goal
 
 pub returns : goal.returns

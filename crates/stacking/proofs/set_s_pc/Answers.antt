@@ -1,4 +1,4 @@
-use Rattle.std.proofs.Common.{refl, rules}
+use Rattle.std.proofs.Common.{refl}
 use Rattle.rules.specs.Operations.{with_s}
 use Rattle.laws.specs.States.{moved}
 use Rattle.state.proofs.Registers.{makes_pc, makes_s}

@@ -1,4 +1,3 @@
-use Rattle.std.proofs.Common.{rules}
 use Rattle.stacking.proofs.word_above.Goals as goal
 
 pub returns : goal.returns

@@ -3,7 +3,6 @@ use Rattle.laws.proofs.Goes.{writes}
 use Rattle.rules.specs.Record.{record_of}
 use mathlib.Core.Path.{◌∙◌}
 use native.Mathlib.Omega.{arith}
-use borrow.Author.Rules.{rules}
 use Rattle.writes.proofs.push.Goals as goal
 
 pub returns : goal.returns

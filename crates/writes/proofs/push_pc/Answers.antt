@@ -1,7 +1,6 @@
 use native.Mathlib.Omega.{arith}
 use Rattle.rules.specs.Cycles.{execution, ◌>>=◌}
 use Rattle.laws.proofs.Goes.{then_write, counted}
-use borrow.Author.Rules.{rules}
 use Rattle.writes.proofs.push_pc.Goals as goal
 
 pub returns : goal.returns

@@ -1,6 +1,5 @@
 use borrow.Author.Tests.{eq-eqb, ne_eqb}
 use Rattle.rules.specs.Record.{record_of}
-use borrow.Author.Rules.{rules}
 use Rattle.writes.proofs.set_register.Goals as goal
 
 pub returns-then-a-eq0 : goal.returns-then-a-eq0

@@ -1,7 +1,6 @@
 use Rattle.writes.proofs.Left.{write_register, write_byte, plain_above}
 use Rattle.rules.specs.Record.{record_of}
 use native.Mathlib.Omega.{arith}
-use borrow.Author.Rules.{rules}
 use Rattle.writes.proofs.write.Goals as goal
 
 pub returns-then-w-a : goal.returns-then-w-a
