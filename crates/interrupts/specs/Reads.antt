@@ -2,7 +2,7 @@
 use Rattle.std.specs.Prelude.{ℕ}
 use Rattle.rules.specs.declared.Purpose.TheVariants.{Wasted, Stack}
 use Rattle.rules.specs.Operations.{stack, down}
-use Rattle.rules.specs.Cycles.{Cycles, done, ◌>>=◌, ◌>>◌}
+use Rattle.rules.specs.Cycles.{Cycles, done, ◌>>◌}
 use Rattle.rules.specs.Addressing.{get}
 
 -- "read PC twice"

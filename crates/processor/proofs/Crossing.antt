@@ -1,5 +1,5 @@
 -- Whether a page was crossed, told from the two addresses alone.
-use Rattle.std.proofs.Common.{◌≡◌, ℕ, ◌/◌, true, false, refl, arith, eq-eqb, ne_eqb}
+use Rattle.std.proofs.Common.{◌≡◌, ℕ, ◌/◌, true, false, arith, eq-eqb, ne_eqb}
 use Rattle.rules.specs.Basics.{sum16}
 use Rattle.rules.specs.Addressing.{old_page, crosses}
 

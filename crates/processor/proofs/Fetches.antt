@@ -1,5 +1,5 @@
 -- The bytes at PC are looked at before they are listed: reads leave the world as it is.
-use Rattle.std.proofs.Common.{◌≡◌, ℕ, ◌/◌, ◌<◌, Bool, true, false, eqb, List, map, sym, refl, ap, ◌∙◌, arith}
+use Rattle.std.proofs.Common.{◌≡◌, ℕ, ◌<◌, Bool, true, false, eqb, List, map, sym, refl, ◌∙◌, arith}
 use mathlib.Core.Bool.{false≢true}
 use Rattle.rules.specs.declared.Bus.{Bus}
 use Rattle.rules.specs.declared.Cpu.{Cpu}
@@ -7,28 +7,26 @@ use Rattle.rules.specs.declared.State.{State}
 use Rattle.rules.specs.declared.Mode.{Mode}
 use Rattle.rules.specs.declared.Mode.TheVariants.{Immediate, Zero, ZeroX, ZeroY, Absolute, AbsoluteX, AbsoluteY, IndirectX, IndirectY}
 use Rattle.rules.specs.declared.Mode.TheVariants.{IndirectBankY}
-use Rattle.rules.specs.declared.Instruction.{Instruction}
 use Rattle.rules.specs.declared.Instruction.TheVariants.{Undefined}
 use Rattle.rules.specs.declared.Purpose.TheVariants.{Opcode, Operand}
-use Rattle.rules.specs.Basics.{when◌then◌else◌, address, sum16}
-use Rattle.rules.specs.Cycles.{Bank, execution, Cycles, done, read, ◌>>=◌, ◌>>◌, Ran, run}
+use Rattle.rules.specs.Basics.{when◌then◌else◌, sum16}
+use Rattle.rules.specs.Cycles.{Bank, execution, Cycles, done, ◌>>=◌, ◌>>◌, Ran, run}
 use Rattle.rules.specs.Bus.{World, world, images, look, board}
 use Rattle.rules.specs.Addressing.{get}
 use Rattle.rules.specs.Opcodes.{Entry, undefined, alone, byte, word, late, decode, is_defined, instruction_of}
 use Rattle.rules.specs.Table.{table}
-use Rattle.rules.specs.Operations.{perform, onward, operate, instruction}
+use Rattle.rules.specs.Operations.{onward, operate, instruction}
 use Rattle.rules.specs.Record.{record_of}
 use Rattle.laws.proofs.Entries.{fetched_by}
 use Rattle.rules.proofs.Table.{everywhere}
 use Rattle.laws.specs.Goes.{Goes, Does}
-use Rattle.laws.specs.States.{moved}
 use Rattle.laws.proofs.Goes.{ended, then_do, then_call}
 use Rattle.wiring.specs.declared.Wiring.{Wiring}
 use Rattle.wiring.specs.Wiring.{Stands}
 use Rattle.processor.specs.Begun.{short}
 use Rattle.laws.specs.Sizes.{mode_size, size_in}
 use Rattle.processor.specs.Found.{second_for}
-use Rattle.processor.specs.Rest.{high_of, past, past_in, behind, begun_by, rest, Fetched, Opens, Reaches}
+use Rattle.processor.specs.Rest.{high_of, past_in, behind, begun_by, rest, Opens, Reaches}
 
 -- each is one computed claim on the table of 256
 sizes : (low high : ℕ) → map (λ (e : Entry). size_in 2 (instruction_of e low high)) table ≡ map fetched_by table

@@ -1,5 +1,5 @@
 -- Which instructions keep within a step's room; what is undefined has none.
-use Rattle.std.specs.Prelude.{ℕ, ◌+◌, Bool, true, false, nat_le}
+use Rattle.std.specs.Prelude.{◌+◌, Bool, true, false, nat_le}
 use Rattle.rules.specs.declared.Instruction.{Instruction}
 use Rattle.rules.specs.declared.Instruction.TheVariants.{Read, Store, Change, Accumulator, Implied, AtStack, Branch, Jump, JumpIndirect}
 use Rattle.rules.specs.declared.Instruction.TheVariants.{Jsr, Brk, Txs, Cli, Undefined}

@@ -4,7 +4,7 @@ use Rattle.rules.specs.declared.State.{State}
 use Rattle.rules.specs.declared.Purpose.{Purpose}
 use Rattle.rules.specs.declared.Purpose.TheVariants.{Opcode, Operand, Wasted}
 use Rattle.rules.specs.Basics.{when◌then◌else◌, sum16}
-use Rattle.rules.specs.Cycles.{execution, Cycles, done, ◌>>=◌, ◌>>◌}
+use Rattle.rules.specs.Cycles.{execution, Cycles, ◌>>◌}
 use Rattle.rules.specs.Bus.{world, images, look}
 use Rattle.rules.specs.Addressing.{get}
 use Rattle.processor.specs.declared.Bytes.{Bytes}

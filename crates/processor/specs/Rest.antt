@@ -20,7 +20,7 @@ use Rattle.laws.specs.Goes.{Goes, Does}
 use Rattle.laws.specs.States.{moved}
 use Rattle.wiring.specs.declared.Wiring.{Wiring}
 use Rattle.wiring.specs.Wiring.{Stands}
-use Rattle.laws.specs.Sizes.{mode_size, size_in}
+use Rattle.laws.specs.Sizes.{size_in}
 
 -- the high byte of a mode's address, or v where it has none
 abbrev pub high_in : Mode → ℕ → ℕ

@@ -2,7 +2,6 @@ use Rattle.rules.specs.Record.{record_of}
 use Rattle.rules.specs.Operations.{inside}
 use Rattle.state.proofs.Registers.{holds, makes_to}
 use Rattle.internal.proofs.Masks.{masked}
-use Rattle.std.proofs.Common.{rules}
 use Rattle.internal.proofs.inside.Goals as goal
 
 pub returns-in-Clc : goal.returns-in-Clc

@@ -3,7 +3,6 @@ use Rattle.laws.proofs.Goes.{do_does}
 use Rattle.rules.specs.Cycles.{◌>>=◌}
 use Rattle.rules.specs.Interrupts.{interrupt}
 use Rattle.state.proofs.Registers.{holds}
-use borrow.Author.Rules.{rules}
 use Rattle.interrupts.proofs.interrupt.Goals as goal
 
 pub returns : goal.returns

@@ -1,6 +1,5 @@
 use Rattle.laws.proofs.Goes.{ended, then_read}
 use Rattle.rules.specs.Cycles.{execution, ◌>>=◌}
-use borrow.Author.Rules.{rules}
 use Rattle.interrupts.proofs.three_reads.Goals as goal
 
 pub returns : goal.returns

@@ -1,9 +1,7 @@
 use Rattle.rules.specs.Operations.{jsr}
 use Rattle.rules.specs.Cycles.{execution, ◌>>=◌}
 use Rattle.laws.proofs.Goes.{does, ended, then_read, then_do}
-use mathlib.Core.Path.{◌∙◌}
 use Rattle.state.proofs.Registers.{holds, makes_pc, makes_s}
-use borrow.Author.Rules.{rules}
 use Rattle.jumps.proofs.jsr.Goals as goal
 
 pub returns : goal.returns

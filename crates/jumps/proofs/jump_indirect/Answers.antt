@@ -3,7 +3,6 @@ use Rattle.rules.specs.Cycles.{done, ◌>>=◌}
 use Rattle.rules.specs.Operations.{with_pc, jump_indirect}
 use Rattle.laws.proofs.Goes.{does, ended, then_call}
 use Rattle.state.proofs.Registers.{makes_pc}
-use borrow.Author.Rules.{rules}
 use Rattle.jumps.proofs.jump_indirect.Goals as goal
 
 pub returns : goal.returns

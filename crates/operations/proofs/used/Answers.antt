@@ -1,4 +1,4 @@
-use Rattle.std.proofs.Common.{refl, ◌∙◌, rules}
+use Rattle.std.proofs.Common.{refl, ◌∙◌}
 use Rattle.rules.specs.Record.{record_of}
 use Rattle.rules.specs.Operations.{used}
 use Rattle.state.proofs.Registers.{holds, makes_p, makes_result, makes_to}

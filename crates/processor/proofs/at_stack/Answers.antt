@@ -1,7 +1,6 @@
 use Rattle.rules.specs.Operations.{perform}
 use Rattle.processor.specs.Rest.{rest}
 use Rattle.processor.proofs.Fetches.{opened_does, one, stands_past}
-use Rattle.std.proofs.Common.{rules}
 use Rattle.processor.proofs.at_stack.Goals as goal
 
 pub returns : goal.returns

@@ -1,6 +1,5 @@
 use Rattle.laws.proofs.Goes.{reads, then_read}
 use Rattle.rules.specs.Cycles.{execution, ◌>>=◌}
-use Rattle.std.proofs.Common.{rules}
 use Rattle.processor.proofs.begin.Goals as goal
 
 pub returns : goal.returns

@@ -1,4 +1,4 @@
-use Rattle.std.proofs.Common.{arith, rules, eq-eqb, ne_eqb}
+use Rattle.std.proofs.Common.{arith, eq-eqb, ne_eqb}
 use Rattle.laws.proofs.Goes.{does, ended, then_read}
 use Rattle.rules.specs.Cycles.{execution, ◌>>=◌}
 use Rattle.rules.specs.Operations.{perform, branch_to}

@@ -1,7 +1,7 @@
 use Rattle.processor.proofs.Back.{looked, recounted}
 use Rattle.rules.specs.Cycles.{execution, ◌>>=◌}
 use Rattle.laws.proofs.Goes.{read_does}
-use Rattle.std.proofs.Common.{arith, rules}
+use Rattle.std.proofs.Common.{arith}
 use Rattle.processor.proofs.change.Goals as goal
 
 pub returns : goal.returns

@@ -1,4 +1,4 @@
-use Rattle.std.proofs.Common.{◌∙◌, rules}
+use Rattle.std.proofs.Common.{◌∙◌}
 use Rattle.state.proofs.Registers.{holds, makes_p}
 use Rattle.rules.specs.Operations.{perform}
 use Rattle.processor.specs.Rest.{rest}

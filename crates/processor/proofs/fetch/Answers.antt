@@ -1,4 +1,4 @@
-use Rattle.std.proofs.Common.{◌+◌, ◌<◌, ◌≤◌, sym, arith, rules}
+use Rattle.std.proofs.Common.{◌<◌, ◌≤◌, sym, arith}
 use Rattle.rules.specs.Cycles.{execution}
 use Rattle.wiring.specs.Wiring.{plain_of}
 use Rattle.processor.proofs.Plain.{beside}

@@ -2,7 +2,6 @@ use Rattle.rules.specs.Operations.{perform}
 use Rattle.processor.specs.Rest.{rest}
 use Rattle.laws.proofs.Goes.{does, ended}
 use Rattle.processor.proofs.Fetches.{opened_does, one}
-use Rattle.std.proofs.Common.{rules}
 use Rattle.processor.proofs.implied.Goals as goal
 
 pub returns : goal.returns

@@ -1,4 +1,4 @@
-use Rattle.std.proofs.Common.{◌<◌, sym, ◌∙◌, arith, rules}
+use Rattle.std.proofs.Common.{◌<◌, sym, ◌∙◌, arith}
 use Rattle.laws.proofs.Goes.{call_does}
 use Rattle.rules.specs.Cycles.{◌>>=◌}
 use Rattle.rules.specs.Opcodes.{decode, instruction_of}

@@ -3,7 +3,6 @@ use Rattle.rules.specs.Operations.{perform}
 use Rattle.processor.specs.Rest.{rest}
 use Rattle.laws.proofs.Goes.{does, ended}
 use Rattle.processor.proofs.Fetches.{opened_does}
-use Rattle.std.proofs.Common.{rules}
 use Rattle.processor.proofs.jump.Goals as goal
 
 pub returns : goal.returns

@@ -1,9 +1,9 @@
-use Rattle.std.proofs.Common.{ℕ, List, [], ◌∷◌, arith, rules}
-use types.Run.{OneOf, miss}
+use Rattle.std.proofs.Common.{ℕ, List, [], ◌∷◌, arith}
+use types.Run.{OneOf}
 use denote.Enum.Declared.{tag_of}
 use Rattle.rules.specs.declared.Instruction.{Instruction}
 use Rattle.rules.specs.contracts.Instruction.{the_type}
-use Rattle.processor.proofs.Lays.{is_store, is_change, three_left, lays_only}
+use Rattle.processor.proofs.Lays.{is_store, is_change, three_left}
 use Rattle.processor.proofs.Fetches.{reached, stands_past}
 use Rattle.laws.specs.Sizes.{mode_size}
 use Rattle.processor.specs.Rest.{rest}

@@ -1,5 +1,4 @@
-use Rattle.std.proofs.Common.{◌≡◌, sym, ◌∙◌, ⊎_elim, arith, rules}
-use mathlib.Core.Bool.{false≢true}
+use Rattle.std.proofs.Common.{⊎_elim, arith, rules}
 use Rattle.rules.specs.Operations.{perform}
 use Rattle.processor.specs.Laid.{Lays, stores, changes}
 use Rattle.processor.specs.Rest.{rest}

@@ -3,7 +3,7 @@ use Rattle.laws.specs.Sizes.{mode_size}
 use Rattle.processor.specs.Rest.{rest}
 use Rattle.rules.specs.Operations.{perform}
 use Rattle.laws.proofs.Goes.{does, ended}
-use Rattle.std.proofs.Common.{arith, rules}
+use Rattle.std.proofs.Common.{arith}
 use Rattle.processor.proofs.read_into.Goals as goal
 
 pub returns : goal.returns

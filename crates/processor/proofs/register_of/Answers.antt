@@ -1,5 +1,4 @@
 use Rattle.rules.specs.Record.{record_of}
-use Rattle.std.proofs.Common.{rules}
 use Rattle.processor.proofs.register_of.Goals as goal
 
 pub returns-in-Sta : goal.returns-in-Sta

@@ -1,5 +1,5 @@
 use Rattle.processor.proofs.Back.{back}
-use Rattle.std.proofs.Common.{refl, ◌∙◌, arith, rules}
+use Rattle.std.proofs.Common.{refl, ◌∙◌, arith}
 use Rattle.laws.proofs.Goes.{ended, then_write, counted}
 use Rattle.rules.specs.Cycles.{execution, ◌>>=◌}
 use Rattle.state.proofs.Registers.{holds, makes_p}

@@ -1,6 +1,5 @@
 use Rattle.rules.specs.Addressing.{bank_of}
 use Rattle.laws.proofs.Goes.{then_write, ended}
-use Rattle.std.proofs.Common.{rules}
 use Rattle.processor.proofs.store.Goals as goal
 
 pub returns : goal.returns

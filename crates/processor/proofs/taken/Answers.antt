@@ -1,5 +1,4 @@
 use Rattle.processor.proofs.Conditions.{taken_clear, taken_set}
-use Rattle.std.proofs.Common.{rules}
 use Rattle.processor.proofs.taken.Goals as goal
 
 pub returns-then-p-flag_of-eq0 : goal.returns-then-p-flag_of-eq0

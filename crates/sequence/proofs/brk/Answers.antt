@@ -1,4 +1,4 @@
-use Rattle.std.proofs.Common.{◌∙◌, rules}
+use Rattle.std.proofs.Common.{◌∙◌}
 use Rattle.rules.specs.Operations.{brk, enter}
 use Rattle.rules.specs.Cycles.{◌>>=◌}
 use Rattle.laws.proofs.Goes.{do_does}

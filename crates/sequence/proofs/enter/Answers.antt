@@ -1,4 +1,4 @@
-use Rattle.std.proofs.Common.{true, refl, ◌∙◌, rules}
+use Rattle.std.proofs.Common.{true, refl, ◌∙◌}
 use Rattle.laws.proofs.Goes.{does, ended, then_call}
 use Rattle.rules.specs.Cycles.{done, ◌>>=◌}
 use Rattle.rules.specs.Flags.{with_i}

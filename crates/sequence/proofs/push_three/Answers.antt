@@ -1,6 +1,5 @@
 use Rattle.laws.proofs.Goes.{then_do}
 use Rattle.rules.specs.Cycles.{execution, ◌>>=◌}
-use Rattle.std.proofs.Common.{rules}
 use Rattle.sequence.proofs.push_three.Goals as goal
 
 pub returns : goal.returns

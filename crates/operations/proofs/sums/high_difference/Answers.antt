@@ -1,4 +1,4 @@
-use Rattle.std.proofs.Common.{rules, le-ltb, lt-ltb}
+use Rattle.std.proofs.Common.{le-ltb, lt-ltb}
 use Rattle.rules.specs.Arithmetic.{high_difference}
 use Rattle.operations.proofs.sums.high_difference.Goals as goal
 

@@ -1,4 +1,4 @@
-use Rattle.std.proofs.Common.{rules, le-leb}
+use Rattle.std.proofs.Common.{le-leb}
 use borrow.Author.Tests.{lt-leb}
 use Rattle.rules.specs.Arithmetic.{high_sum}
 use Rattle.operations.proofs.sums.high_sum.Goals as goal

@@ -1,6 +1,5 @@
 use Rattle.rules.specs.Cycles.{execution}
 use Rattle.processor.proofs.Fetches.{reaches, stands_past}
-use Rattle.std.proofs.Common.{rules}
 use Rattle.processor.proofs.addressing.at_absolute_indexed.Goals as goal
 
 pub returns : goal.returns

@@ -1,7 +1,6 @@
 use Rattle.rules.specs.Addressing.{place}
 use Rattle.state.proofs.Registers.{holds}
 use Rattle.processor.proofs.Fetches.{reaches_on, stands_past}
-use Rattle.std.proofs.Common.{rules}
 use Rattle.processor.proofs.addressing.at_indirect_x.Goals as goal
 
 pub returns : goal.returns

@@ -1,7 +1,6 @@
 use Rattle.state.proofs.Registers.{holds}
 use Rattle.laws.proofs.Goes.{then_call}
 use Rattle.processor.proofs.Fetches.{reaches, two, stands_past}
-use Rattle.std.proofs.Common.{rules}
 use Rattle.processor.proofs.addressing.at_indirect_y.Goals as goal
 
 pub returns : goal.returns

@@ -2,7 +2,7 @@ use Rattle.state.proofs.Registers.{holds}
 use Rattle.laws.proofs.Goes.{then_call}
 use Rattle.rules.specs.Cycles.{execution}
 use Rattle.rules.specs.Addressing.{load}
-use Rattle.std.proofs.Common.{arith, rules}
+use Rattle.std.proofs.Common.{arith}
 use Rattle.processor.proofs.Fetches.{reaches_on, stands_past}
 use Rattle.processor.proofs.addressing.from_indirect_x.Goals as goal
 

@@ -1,7 +1,7 @@
 use Rattle.state.proofs.Registers.{holds}
 use Rattle.laws.proofs.Goes.{then_call}
 use Rattle.processor.proofs.Fetches.{reaches, two, stands_past}
-use Rattle.std.proofs.Common.{arith, rules}
+use Rattle.std.proofs.Common.{arith}
 use Rattle.processor.proofs.addressing.from_indirect_y.Goals as goal
 
 pub returns : goal.returns

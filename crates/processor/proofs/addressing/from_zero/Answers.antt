@@ -1,5 +1,5 @@
 use Rattle.rules.specs.Cycles.{execution}
-use Rattle.std.proofs.Common.{arith, rules}
+use Rattle.std.proofs.Common.{arith}
 use Rattle.processor.proofs.Fetches.{reaches, two, stands_past}
 use Rattle.processor.proofs.addressing.from_zero.Goals as goal
 

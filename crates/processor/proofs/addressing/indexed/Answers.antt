@@ -1,6 +1,5 @@
 use Rattle.laws.proofs.Goes.{then_read, ended}
 use Rattle.rules.specs.Addressing.{indexed}
-use Rattle.std.proofs.Common.{rules}
 use Rattle.processor.proofs.addressing.indexed.Goals as goal
 
 pub returns : goal.returns

@@ -1,4 +1,4 @@
-use Rattle.std.proofs.Common.{◌≡◌, sym, refl, ◌∙◌, ⊎_elim, arith, rules}
+use Rattle.std.proofs.Common.{refl, ⊎_elim, arith}
 use Rattle.rules.specs.Addressing.{load}
 use Rattle.rules.specs.Cycles.{execution}
 use Rattle.laws.proofs.Goes.{ended}

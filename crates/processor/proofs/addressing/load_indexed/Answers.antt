@@ -1,5 +1,5 @@
 use Rattle.laws.proofs.Goes.{ended, then_read, counted}
-use Rattle.std.proofs.Common.{arith, rules}
+use Rattle.std.proofs.Common.{arith}
 use Rattle.processor.proofs.Crossing.{stays, leaves}
 use Rattle.rules.specs.Addressing.{load_indexed}
 use Rattle.processor.proofs.addressing.load_indexed.Goals as goal

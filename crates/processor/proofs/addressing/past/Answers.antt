@@ -1,5 +1,4 @@
 use Rattle.state.proofs.Registers.{makes_pc}
-use Rattle.std.proofs.Common.{rules}
 use Rattle.processor.proofs.addressing.past.Goals as goal
 
 pub returns : goal.returns

@@ -1,4 +1,4 @@
-use Rattle.std.proofs.Common.{◌≡◌, sym, refl, ◌∙◌, ⊎_elim, arith, rules}
+use Rattle.std.proofs.Common.{refl, ⊎_elim, arith}
 use Rattle.rules.specs.Addressing.{place}
 use Rattle.laws.proofs.Goes.{ended}
 use Rattle.state.proofs.Registers.{holds}

@@ -1,5 +1,4 @@
 use Rattle.rules.specs.Addressing.{pointer}
-use Rattle.std.proofs.Common.{rules}
 use Rattle.processor.proofs.addressing.pointer.Goals as goal
 
 pub returns : goal.returns

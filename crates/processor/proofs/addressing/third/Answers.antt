@@ -1,6 +1,5 @@
 use Rattle.rules.specs.Cycles.{execution, ◌>>=◌}
 use Rattle.laws.proofs.Goes.{reads, then_read, ended}
-use Rattle.std.proofs.Common.{rules}
 use Rattle.processor.proofs.addressing.third.Goals as goal
 
 pub returns : goal.returns

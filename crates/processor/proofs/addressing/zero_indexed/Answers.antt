@@ -2,7 +2,6 @@ use Rattle.laws.proofs.Goes.{ended, then_read}
 use Rattle.rules.specs.Cycles.{execution, ◌>>=◌}
 use Rattle.rules.specs.Addressing.{zero_indexed}
 use Rattle.processor.proofs.Fetches.{reaches, two, stands_past}
-use Rattle.std.proofs.Common.{rules}
 use Rattle.processor.proofs.addressing.zero_indexed.Goals as goal
 
 pub returns : goal.returns
