@@ -5,7 +5,7 @@ use native.Mathlib.Decide.{ℕ_discrete}
 use Rattle.rules.specs.declared.Refusal.TheVariants.{MapRecord}
 use Rattle.rules.specs.declared.Verdict.{Verdict}
 use Rattle.rules.specs.declared.Verdict.TheVariants.{Barred}
-use Rattle.rules.specs.Basics.{if◌then◌else◌, at}
+use Rattle.rules.specs.Basics.{when◌then◌else◌, at}
 use Rattle.rules.specs.Answers.{tested}
 use Rattle.admission_rules.specs.Admission.{main, handler, mark_at, marks_in, ascends, of_records, mark_tests}
 use Rattle.laws.proofs.Tests.{and_right}
@@ -13,7 +13,7 @@ use Rattle.admission.specs.Maps.{shaped, formed, Formed, Ascending}
 use Rattle.admission.proofs.Judged.{from, no_record, record_first}
 
 joined : {A : Type 0} (a b c d e f : Bool) (x y : A) →
-    (if a && b then if c && d && e then if f then x else y else y else y) ≡ (if a && b && c && d && e && f then x else y)
+    (when a && b then when c && d && e then when f then x else y else y else y) ≡ (when a && b && c && d && e && f then x else y)
 joined true true true true true f x y = refl
 joined true true true true false f x y = refl
 joined true true true false e f x y = refl
@@ -22,7 +22,7 @@ joined true false c d e f x y = refl
 joined false b c d e f x y = refl
 
 module _ (map : List ℕ) where
-  form_is : (i : ℕ) (v : Verdict) → tested (mark_tests map i) Barred v ≡ (if formed map i then v else Barred (MapRecord i))
+  form_is : (i : ℕ) (v : Verdict) → tested (mark_tests map i) Barred v ≡ (when formed map i then v else Barred (MapRecord i))
   unfolding mark_tests
   form_is i v =
       joined (leb main (mark_at map i).kind) (leb (mark_at map i).kind handler) (eqb (at map (8 * i + 5)) 0) (eqb (at map (8 * i + 6)) 0)

@@ -3,7 +3,7 @@ use Rattle.std.proofs.Common.{◌≡◌, ℕ, zero, suc, ◌+◌, ◌-◌, ◌<�
 use Rattle.rules.specs.declared.Refusal.TheVariants as refusal
 use Rattle.rules.specs.declared.Verdict.{Verdict}
 use Rattle.rules.specs.declared.Verdict.TheVariants.{Accepted, Barred}
-use Rattle.rules.specs.Basics.{if◌then◌else◌}
+use Rattle.rules.specs.Basics.{when◌then◌else◌}
 use Rattle.rules.specs.Answers.{Test, ◌unless◌, tested}
 use Rattle.laws.proofs.Tests.{tested_append}
 use Rattle.admission_rules.specs.declared.Successor.{Successor}
@@ -36,7 +36,7 @@ pub comes_to : {f : ℕ → List Test} {n i : ℕ} {v : Verdict} → Passed f n 
 comes_to {f} {n} {i} p h ts e = p.same ∙ record_first f i n Accepted h ∙ (rw e)
 
 -- more tests of the same do not matter
-twice : {A : Type 0} (b : Bool) (x y : A) → (if b then x else y) ≡ (if b then if b then x else y else y)
+twice : {A : Type 0} (b : Bool) (x y : A) → (when b then x else y) ≡ (when b then when b then x else y else y)
 twice true x y = refl
 twice false x y = refl
 

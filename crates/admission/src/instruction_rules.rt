@@ -3,7 +3,7 @@
 ghost use Rattle.std.specs.Prelude.{◌≡◌, ℕ, nat_le};
 ghost use Rattle.rules.specs.declared.Instruction.TheVariants.{AtStack};
 ghost use Rattle.rules.specs.declared.Refusal.TheVariants.{StoreAddress, Stack};
-ghost use Rattle.rules.specs.Basics.{if◌then◌else◌, address};
+ghost use Rattle.rules.specs.Basics.{when◌then◌else◌, address};
 ghost use Rattle.admission_rules.specs.declared.Rules.TheVariants.{Broken, Leads};
 ghost use Rattle.admission_rules.specs.Admission.{one, outside, store_rules, goes_to, goes_on, goes_up, goes_down};
 ghost use Rattle.admission_rules.specs.Admission.{calls, is_at_zero, rules_of};
@@ -101,7 +101,7 @@ fn one(s: Successor) -> Rules
 
 // The rules r after a rule that holds or not.
 fn unless(holds: bool, e: Refusal, r: Rules) -> Rules
-    ensures { result ≡ (if holds then r else Broken e) }
+    ensures { result ≡ (when holds then r else Broken e) }
 {
     if holds { r } else { Rules::Broken(e) }
 }
@@ -118,7 +118,7 @@ fn outside(least: u16, a: u16) -> bool
 
 // 14, for an address of these two bytes.
 fn unless_inside(least: u16, low: u8, high: u8, i: u16, r: Rules) -> Rules
-    ensures { result ≡ (if outside least (address low high) then r else Broken (StoreAddress i)) }
+    ensures { result ≡ (when outside least (address low high) then r else Broken (StoreAddress i)) }
 {
     unless(
         outside(least, addresses::join(low, high)),
@@ -156,7 +156,7 @@ fn is_at_zero(m: Mark, kind: u8) -> bool
 
 // "PLA: height at least 1"; "PLA height one less, successor's need at most need + 1"
 fn pulled(m: Mark, next: u16, i: u16) -> Rules
-    ensures { result ≡ (if nat_le 1 m.height then one (goes_down m next) else Broken (Stack i)) }
+    ensures { result ≡ (when nat_le 1 m.height then one (goes_down m next) else Broken (Stack i)) }
 {
     if m.height == 0 {
         return Rules::Broken(Refusal::Stack(i));
@@ -166,7 +166,7 @@ fn pulled(m: Mark, next: u16, i: u16) -> Rules
 
 // "none for RTS, RTI"
 fn returned(m: Mark, kind: u8, next: u16, i: u16) -> Rules
-    ensures { result ≡ (if is_at_zero m kind then Leads 0 (goes_on m next) (goes_on m next) else Broken (Stack i)) }
+    ensures { result ≡ (when is_at_zero m kind then Leads 0 (goes_on m next) (goes_on m next) else Broken (Stack i)) }
 {
     let unused = goes_on(m, next);
     unless(

@@ -7,7 +7,7 @@ use mathlib.Core.List.{List, [], ◌∷◌, ◌++◌}
 use lib.Dec.{eqb}
 use lib.ListN.{length, set}
 use Rattle.rules.specs.declared.Bus.{Bus}
-use Rattle.rules.specs.Basics.{if◌then◌else◌, at, address}
+use Rattle.rules.specs.Basics.{when◌then◌else◌, at, address}
 use Rattle.rules.specs.Cycles.{Bank, Cycles, done, read, write, Access, Ran, run}
 use Rattle.rules.specs.Bus.{is_protected, of_image, cell_of, image_at, images, World, world, look, stored, board, list_of}
 use Rattle.admission_rules.specs.Safety.{stack_writes}
@@ -15,7 +15,7 @@ use Rattle.admission_rules.specs.Safety.{stack_writes}
 -- the addresses in the stack page that a list's accesses write
 abbrev on_page : List Access → List ℕ
 on_page [] = []
-on_page (a ∷ l) = if eqb a.kind 1 && eqb (a.address / 256) 1 then a.address ∷ on_page l else on_page l
+on_page (a ∷ l) = when eqb a.kind 1 && eqb (a.address / 256) 1 then a.address ∷ on_page l else on_page l
 
 -- read off the list's bytes, they are the same
 pub listed_writes : (l : List Access) (rest : List ℕ) → stack_writes (length l) (list_of l ++ rest) ≡ on_page l
@@ -27,7 +27,7 @@ listed_writes (a ∷ l) rest =
 
 -- what a write leaves of the image, c pages protected
 abbrev pub written : ℕ → List ℕ → ℕ → ℕ → List ℕ
-written c m p v = if is_protected c p then m else set m p v
+written c m p v = when is_protected c p then m else set m p v
 
 -- what a tree ends with: its value, the image, and the addresses that it wrote in the stack page
 pub record End (A : Type 0) : Type 0 where
@@ -40,7 +40,7 @@ ends c (done a) m = record { value = a; image = m; writes = [] }
 ends c (read why b p f) m = ends c (f (at m p)) m
 ends c (write why b p v t) m =
     let e = ends c t (written c m p v) in
-    record { value = e.value; image = e.image; writes = if eqb (p / 256) 1 then p ∷ e.writes else e.writes }
+    record { value = e.value; image = e.image; writes = when eqb (p / 256) 1 then p ∷ e.writes else e.writes }
 
 module _ (b : Bus) (is : b.part ≡ 2) where
   cell_6502 : (k : Bank) (p : ℕ) → cell_of b k p ≡ of_image p
@@ -55,7 +55,7 @@ module _ (b : Bus) (is : b.part ≡ 2) where
   unfolding stored
   stored_6502 m k p v = rw (cell_6502 k p) (go (is_protected b.protected p))
     where
-      go : (h : Bool) → (if h then world b m else world b (set m p v)) ≡ world b (if h then m else set m p v)
+      go : (h : Bool) → (when h then world b m else world b (set m p v)) ≡ world b (when h then m else set m p v)
       go true = refl
       go false = refl
 
@@ -72,4 +72,4 @@ module _ (b : Bus) (is : b.part ≡ 2) where
   run_ends (write why k p v t) m =
       rw (stored_6502 m k p v)
       (let e = run_ends t (written b.protected m p v) in
-      record { value = e.value; after = e.after; writes = ap (λ (l : List ℕ). if eqb (p / 256) 1 then p ∷ l else l) e.writes })
+      record { value = e.value; after = e.after; writes = ap (λ (l : List ℕ). when eqb (p / 256) 1 then p ∷ l else l) e.writes })

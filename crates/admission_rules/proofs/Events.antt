@@ -11,7 +11,7 @@ use Rattle.rules.specs.declared.Cpu.{Cpu}
 use Rattle.rules.specs.declared.Instruction.{Instruction}
 use Rattle.rules.specs.declared.Instruction.TheVariants.{Jsr}
 use Rattle.rules.specs.declared.Refusal.TheVariants.{Place}
-use Rattle.rules.specs.Basics.{if◌then◌else◌, at, address, sum16}
+use Rattle.rules.specs.Basics.{when◌then◌else◌, at, address, sum16}
 use Rattle.rules.specs.Cycles.{◌>>=◌}
 use Rattle.rules.specs.Flags.{byte_of}
 use Rattle.rules.specs.Opcodes.{Entry, undefined, alone, byte, word, late, size_of, is_defined, instruction_of, decode}
@@ -228,7 +228,7 @@ module _ (m₀ : List ℕ) (c : ℕ) (map : List ℕ) (ad : Admitted m₀ c map)
           record { defined = λ e. x.defined; named = λ e. (s.i, s.goes.within, s.address); done = x.done }
 
       go : (r n : Bool) → n ≡ false → (q i : Bool) → u.p.i ≡ i →
-          Well (if r then Res else if n && not last then Nmi else if q && not i then Irq else Execute) u m k
+          Well (when r then Res else when n && not last then Nmi else when q && not i then Irq else Execute) u m k
       go true n z q i e = well_reset u m k g.registers g.image
       go false true z q i e = absurd (false≢true (sym z))
       go false false z true false e = away (λ h. let z : ◌≡◌ {A = ℕ} 0 1 = cc in omega arith) (requested u m k g e)

@@ -21,7 +21,7 @@ use Rattle.rules.specs.declared.Instruction.{Instruction}
 use Rattle.rules.specs.declared.Instruction.TheVariants.{Read, Store, Change, Accumulator, Implied, AtStack, Branch, Jump, JumpIndirect}
 use Rattle.rules.specs.declared.Instruction.TheVariants.{Jsr, Brk, Txs, Cli, Undefined}
 use Rattle.rules.specs.declared.Refusal.TheVariants.{Stack}
-use Rattle.rules.specs.Basics.{if◌then◌else◌, at, address, sum8, sum16}
+use Rattle.rules.specs.Basics.{when◌then◌else◌, at, address, sum8, sum16}
 use Rattle.rules.specs.Cycles.{Cycles, ◌>>=◌}
 use Rattle.rules.specs.Flags.{byte_of4, flags_of}
 use Rattle.rules.specs.Addressing.{load, place}
@@ -216,7 +216,7 @@ module _ (m₀ : List ℕ) (c : ℕ) (map : List ℕ) (ad : Admitted m₀ c map)
         (pushed_image m u.s x r.s h g.image))
 
     -- a rule of 15 holds, and the rules r behind it
-    behind : (b : Bool) (r : Rules) → Hold (tests_of map v.i (if b then r else rules.Broken (Stack v.i))) →
+    behind : (b : Bool) (r : Rules) → Hold (tests_of map v.i (when b then r else rules.Broken (Stack v.i))) →
         (b ≡ true) × Hold (tests_of map v.i r)
     behind b r t = unbroken map v.i b (Stack v.i) r t
 

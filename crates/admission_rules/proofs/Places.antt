@@ -13,7 +13,7 @@ use Rattle.rules.specs.declared.Mode.TheVariants.{Immediate, Zero, ZeroX, ZeroY,
 use Rattle.rules.specs.declared.Mode.TheVariants.{IndirectBankY}
 use Rattle.rules.specs.declared.Refusal.{Refusal}
 use Rattle.rules.specs.declared.Refusal.TheVariants.{StoreAddress}
-use Rattle.rules.specs.Basics.{if◌then◌else◌, address, sum16}
+use Rattle.rules.specs.Basics.{when◌then◌else◌, address, sum16}
 use Rattle.rules.specs.Cycles.{Bank, execution, indirect, ◌>>=◌}
 use Rattle.rules.specs.Addressing.{load, place, pointer, zero_indexed, indexed, crosses, load_indexed}
 use Rattle.admission_rules.specs.declared.Successor.{Successor}
@@ -80,7 +80,7 @@ pub record Stored (map : List ℕ) (c : Cpu) (d : Mode) (s : Successor) : Type 0
 
 module _ (map : List ℕ) (i : ℕ) where
   -- the rules of a record that are asked where one of its own holds
-  pub unbroken : (b : Bool) (e : Refusal) (r : Rules) → Hold (tests_of map i (if b then r else Broken e)) →
+  pub unbroken : (b : Bool) (e : Refusal) (r : Rules) → Hold (tests_of map i (when b then r else Broken e)) →
       (b ≡ true) × Hold (tests_of map i r)
   unbroken true e r t = (refl, t)
   unbroken false e r t = absurd (false≢true t.0)

@@ -13,7 +13,7 @@ use Rattle.rules.specs.declared.Mode.TheVariants.{IndirectBankY}
 use Rattle.rules.specs.declared.Instruction.{Instruction}
 use Rattle.rules.specs.declared.Instruction.TheVariants.{Read, Store, Change, Accumulator, Implied, AtStack, Branch, Jump, JumpIndirect}
 use Rattle.rules.specs.declared.Instruction.TheVariants.{Jsr, Brk, Txs, Cli, Undefined}
-use Rattle.rules.specs.Basics.{if◌then◌else◌, at, address, sum16}
+use Rattle.rules.specs.Basics.{when◌then◌else◌, at, address, sum16}
 use Rattle.rules.specs.Cycles.{◌>>=◌}
 use Rattle.rules.specs.Opcodes.{Entry, undefined, alone, byte, word, late, Row, rows, among, decode, is_defined, instruction_of}
 use Rattle.rules.specs.Operations.{with_pc, perform, operate, instruction, onward}
@@ -27,8 +27,8 @@ use Rattle.admission_rules.proofs.Places.{Small}
 -- address (wide) is no data and no address of page zero, and JSR is late.
 
 abbrev pub mode_gives : Bool → ℕ → ℕ → Mode → ℕ × ℕ
-mode_gives wide low high (Immediate v) = (if wide then suc low else v, high)
-mode_gives wide low high (Zero z) = (if wide then suc low else z, high)
+mode_gives wide low high (Immediate v) = (when wide then suc low else v, high)
+mode_gives wide low high (Zero z) = (when wide then suc low else z, high)
 mode_gives wide low high (ZeroX z) = (low, high)
 mode_gives wide low high (ZeroY z) = (low, high)
 mode_gives wide low high (Absolute l h) = (low, high)
@@ -89,7 +89,7 @@ pub decode_late : (n v : ℕ) → late_gives v (decode n) ≡ Jsr v
 unfolding decode
 decode_late n v = among_gives (late_gives v) (Jsr v) refl rows n 151 refl
 
-narrow : (wide : Bool) (low v high : ℕ) → ◌≡◌ {A = ℕ × ℕ} (if wide then suc low else v, high) (low, high) → low < 256 → v < 256
+narrow : (wide : Bool) (low v high : ℕ) → ◌≡◌ {A = ℕ × ℕ} (when wide then suc low else v, high) (low, high) → low < 256 → v < 256
 narrow true low v high e l = let z : suc low ≡ low = ap (λ (q : ℕ × ℕ). q.0) e in absurd (omega arith)
 narrow false low v high e l = let z : v ≡ low = ap (λ (q : ℕ × ℕ). q.0) e in omega arith
 

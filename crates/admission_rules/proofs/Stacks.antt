@@ -8,7 +8,7 @@ use mathlib.Core.Bool.{Bool, true, false, false≢true}
 use mathlib.Core.List.{List, [], ◌∷◌, ◌++◌}
 use lib.ListN.{length, set, length-append, length-set}
 use lib.Seq.{get_or-set_same, get_or-set_other}
-use Rattle.rules.specs.Basics.{if◌then◌else◌, at, address, sum8, sum16}
+use Rattle.rules.specs.Basics.{when◌then◌else◌, at, address, sum8, sum16}
 use Rattle.rules.specs.Operations.{stack, down}
 use Rattle.admission_rules.specs.Admission.{mark_at, marks_in, main, routine, handler}
 use Rattle.admission_rules.specs.Safety.{Stacked}
@@ -75,7 +75,7 @@ pub record Leads (map : List ℕ) (p k h d e : ℕ) : Type 0 where
 module _ (map : List ℕ) (N : ℕ) where
   -- the most bytes there may be: N in the main program, 256 while a handler runs
   abbrev pub most : Bool → ℕ
-  most busy = if busy then 256 else N
+  most busy = when busy then 256 else N
 
   -- mark i may go on with these bytes on the stack, of which the first are its own
   pub record Goes (i : ℕ) (own below : List ℕ) (busy : Bool) : Type 0 where

@@ -12,7 +12,7 @@ use Rattle.rules.specs.declared.Refusal.TheVariants.{Admission, MapRecord, Vecto
 use Rattle.rules.specs.declared.Refusal.TheVariants as refusal
 use Rattle.rules.specs.declared.Verdict.{Verdict}
 use Rattle.rules.specs.declared.Verdict.TheVariants.{Accepted, Barred}
-use Rattle.rules.specs.Basics.{if◌then◌else◌, at, address, sum16}
+use Rattle.rules.specs.Basics.{when◌then◌else◌, at, address, sum16}
 use Rattle.rules.specs.Opcodes.{decode, size_of, instruction_of}
 use Rattle.rules.specs.Operations.{target}
 use Rattle.rules.specs.Bus.{is_protected, Memory}
@@ -92,9 +92,9 @@ store_rules i (Immediate v) r = r
 store_rules i (Zero z) r = r
 store_rules i (ZeroX z) r = r
 store_rules i (ZeroY z) r = r
-store_rules i (Absolute low high) r = if outside 0x0100 (address low high) then r else Broken (StoreAddress i)
-store_rules i (AbsoluteX low high) r = if outside 0x0001 (address low high) then r else Broken (StoreAddress i)
-store_rules i (AbsoluteY low high) r = if outside 0x0001 (address low high) then r else Broken (StoreAddress i)
+store_rules i (Absolute low high) r = when outside 0x0100 (address low high) then r else Broken (StoreAddress i)
+store_rules i (AbsoluteX low high) r = when outside 0x0001 (address low high) then r else Broken (StoreAddress i)
+store_rules i (AbsoluteY low high) r = when outside 0x0001 (address low high) then r else Broken (StoreAddress i)
 store_rules i (IndirectX z) r = Broken (Place i)
 store_rules i (IndirectY z) r = Broken (Place i)
 store_rules i (IndirectBankY z) r = Broken (Place i)
@@ -137,16 +137,16 @@ module _ (mark : Mark) where
     rules_of (AtStack Php) = one (goes_up next)
     rules_of (AtStack Plp) = Broken (Place i)
     rules_of (AtStack Pha) = one (goes_up next)
-    rules_of (AtStack Pla) = if leb 1 mark.height then one (goes_down next) else Broken (Stack i)
-    rules_of (AtStack Rts) = if is_at_zero routine then Leads 0 (goes_on next) (goes_on next) else Broken (Stack i)
-    rules_of (AtStack Rti) = if is_at_zero handler then Leads 0 (goes_on next) (goes_on next) else Broken (Stack i)
+    rules_of (AtStack Pla) = when leb 1 mark.height then one (goes_down next) else Broken (Stack i)
+    rules_of (AtStack Rts) = when is_at_zero routine then Leads 0 (goes_on next) (goes_on next) else Broken (Stack i)
+    rules_of (AtStack Rti) = when is_at_zero handler then Leads 0 (goes_on next) (goes_on next) else Broken (Stack i)
     rules_of (Branch t o) = Leads 2 (goes_on next) (goes_on (target next o))
     rules_of (Jump low high) = one (goes_on (address low high))
     rules_of (JumpIndirect low high) = Broken (Place i)
     rules_of (Jsr low) = Leads 2 (goes_on next) (calls (address low second))
     rules_of Brk = Broken (Place i)
-    rules_of Txs = if is_at_zero main then one (goes_on next) else Broken (Stack i)
-    rules_of Cli = if eqb mark.kind main then one (goes_on next) else Broken (Stack i)
+    rules_of Txs = when is_at_zero main then one (goes_on next) else Broken (Stack i)
+    rules_of Cli = when eqb mark.kind main then one (goes_on next) else Broken (Stack i)
     rules_of Undefined = Broken (Place i)
 
 module _ {M : Type 0} (memory : Memory M) (m : M) where
@@ -172,7 +172,7 @@ module _ {M : Type 0} (memory : Memory M) (m : M) where
         let p = mark.address in
         let entry = decode (memory.peek m p) in
         let high = memory.peek m (sum16 p 2) in
-        if is_protected c p && leb (p + size_of entry) 65536
+        when is_protected c p && leb (p + size_of entry) 65536
         then rules_of mark i (sum16 p (size_of entry)) high (instruction_of entry (memory.peek m (sum16 p 1)) high)
         else Broken (Place i)
 

@@ -16,7 +16,7 @@ use Rattle.rules.specs.declared.Instruction.TheVariants.{Read, Store, Change, Ac
 use Rattle.rules.specs.declared.Instruction.TheVariants.{Jsr, Brk, Txs, Cli, Undefined}
 use Rattle.rules.specs.declared.StepAnswer.TheVariants.{Stepped}
 use Rattle.rules.specs.declared.Verdict.TheVariants.{Accepted}
-use Rattle.rules.specs.Basics.{if◌then◌else◌, at, address, sum16}
+use Rattle.rules.specs.Basics.{when◌then◌else◌, at, address, sum16}
 use Rattle.rules.specs.Opcodes.{decode, instruction_of}
 use Rattle.rules.specs.Operations.{stack, down}
 use Rattle.rules.specs.declared.Event.{Event}
@@ -89,7 +89,7 @@ abbrev pub stack_writes : ℕ → List ℕ → List ℕ
 stack_writes zero l = []
 stack_writes (suc n) l =
     let later = stack_writes n (drop 8 l) in
-    if eqb (at l 4) 1 && eqb (at l 1) 1 then address (at l 0) (at l 1) ∷ later else later
+    when eqb (at l 4) 1 && eqb (at l 1) 1 then address (at l 0) (at l 1) ∷ later else later
 
 -- A call of the board, which gets the image as it then stands: a run of a script, or a step by itself, whose script is its lines and pins.
 pub record Call : Type 0 where

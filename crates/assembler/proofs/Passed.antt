@@ -3,7 +3,7 @@ use Rattle.std.proofs.Common.{◌≡◌, ℕ, suc, ◌+◌, ◌-◌, ◌<◌, �
 use Rattle.std.proofs.Common.{ap, ◌∙◌, add-one, arith, length-append, length-drop, drop-drop, le-leb, leb-true}
 use borrow.Author.Tests.{lt-leb}
 use lib.Seq.{sets, sets-eq, drop-append-add, take-append_seam}
-use Rattle.rules.specs.Basics.{if◌then◌else◌, sum16}
+use Rattle.rules.specs.Basics.{when◌then◌else◌, sum16}
 use Rattle.rules.specs.Step.{front}
 use Rattle.operands.proofs.Laws.{none_left}
 use Rattle.assembly_rules.specs.declared.Fault.{Fault}
@@ -36,8 +36,8 @@ module _ (room n count : ℕ) (before : List ℕ) (go_on : List ℕ → Made) (e
       Goes room n count total before bytes go_on (fitted room n before go_on bytes)
   fits_go total bytes h = rw e (go (leb (count + length bytes) room) refl h)
     where
-      go : (b : Bool) → leb (count + length bytes) room ≡ b → (if b then Go (count + length bytes) else Stop Fault.NoRoom) ≡ Go total →
-          Goes room n count total before bytes go_on (if b then go_on (before ++ bytes) else wrong Fault.NoRoom n)
+      go : (b : Bool) → leb (count + length bytes) room ≡ b → (when b then Go (count + length bytes) else Stop Fault.NoRoom) ≡ Go total →
+          Goes room n count total before bytes go_on (when b then go_on (before ++ bytes) else wrong Fault.NoRoom n)
       go true f g =
           let t : total ≡ count + length bytes = cc in
           record { same = refl; size = t; fits = rw t (leb-true (count + length bytes) room f) }
@@ -54,8 +54,8 @@ module _ (room n count : ℕ) (before : List ℕ) (go_on : List ℕ → Made) (e
   fits_stop : (f : Fault) (bytes : List ℕ) → fitted_to room count (length bytes) ≡ Stop f → fitted room n before go_on bytes ≡ wrong f n
   fits_stop f bytes h = rw e (go (leb (count + length bytes) room) h)
     where
-      go : (b : Bool) → (if b then Go (count + length bytes) else Stop Fault.NoRoom) ≡ Stop f →
-          (if b then go_on (before ++ bytes) else wrong Fault.NoRoom n) ≡ wrong f n
+      go : (b : Bool) → (when b then Go (count + length bytes) else Stop Fault.NoRoom) ≡ Stop f →
+          (when b then go_on (before ++ bytes) else wrong Fault.NoRoom n) ≡ wrong f n
       go true g = let z : ◌≡◌ {A = ℕ} 0 1 = cc in absurd (omega arith)
       go false g = let t : Fault.NoRoom ≡ f = cc in rw t
 
@@ -87,10 +87,10 @@ front_more before bytes buffer count e h =
 
 -- a buffer as a pass leaves it
 abbrev shown : Bool → List ℕ → List ℕ → List ℕ
-shown writing before buffer = if writing then front before buffer else buffer
+shown writing before buffer = when writing then front before buffer else buffer
 
 shown_more : (writing : Bool) (before bytes buffer : List ℕ) (count : ℕ) → length before ≡ count → count + length bytes ≤ length buffer →
-    (if writing then sets (shown writing before buffer) count bytes else shown writing before buffer) ≡
+    (when writing then sets (shown writing before buffer) count bytes else shown writing before buffer) ≡
     shown writing (before ++ bytes) buffer
 shown_more true before bytes buffer count e h = front_more before bytes buffer count e h
 shown_more false before bytes buffer count e h = refl
@@ -173,7 +173,7 @@ module _ (text : List ℕ) (start : ℕ) (buffer : List ℕ) (writing : Bool) wh
         pub pass_room : count + length (bytes_of l) ≤ length bytes
         pass_room = let g = goes in omega (arith, g.size, g.fits, pass_size)
 
-        pub pass_more : (bytes' : List ℕ) → bytes' ≡ (if writing then sets bytes count (bytes_of l) else bytes) →
+        pub pass_more : (bytes' : List ℕ) → bytes' ≡ (when writing then sets bytes count (bytes_of l) else bytes) →
             Passing text start buffer writing bytes' b.next (n + 1) total
         pass_more bytes' e =
             let g = goes in

@@ -1,6 +1,6 @@
 -- What a pass over a text comes to, line by line.
 use Rattle.std.specs.Prelude.{◌≡◌, ℕ, ◌+◌, Bool, true, false, ◌&&◌, List, [], ◌∷◌, ◌==◌, nat_le}
-use Rattle.rules.specs.Basics.{if◌then◌else◌}
+use Rattle.rules.specs.Basics.{when◌then◌else◌}
 use Rattle.rules.specs.Step.{front}
 use Rattle.assembly_rules.specs.declared.Fault.TheVariants.{NoRoom}
 use Rattle.assembly_rules.specs.declared.Line.{Line}
@@ -13,7 +13,7 @@ use Rattle.assembler.specs.declared.Step.TheVariants.{Stop, Go}
 -- how many characters end a line here: LF, or CR and LF, or none
 abbrev pub ending : List ℕ → ℕ
 ending [] = 0
-ending (c ∷ s) = if c == 10 then 1 else if c == 13 && begins_with_lf s then 2 else 0
+ending (c ∷ s) = when c == 10 then 1 else when c == 13 && begins_with_lf s then 2 else 0
 
 abbrev pub bytes_of : Line → List ℕ
 bytes_of Nothing = []
@@ -24,7 +24,7 @@ bytes_of (Wrong e) = []
 
 -- so many bytes more, behind the first count
 abbrev pub fitted_to : ℕ → ℕ → ℕ → Step
-fitted_to room count size = if nat_le (count + size) room then Go (count + size) else Stop NoRoom
+fitted_to room count size = when nat_le (count + size) room then Go (count + size) else Stop NoRoom
 
 abbrev pub step_to : ℕ → ℕ → Line → Step
 step_to room count Nothing = fitted_to room count 0

@@ -4,7 +4,7 @@
 
 ghost use Rattle.std.specs.Prelude.{◌≡◌, ◌+◌, ◌<◌, ◌≤◌, ◌∷◌, length, drop};
 ghost use Rattle.std.proofs.lemmas.List.Edits.{sets};
-ghost use Rattle.rules.specs.Basics.{if◌then◌else◌, sum16};
+ghost use Rattle.rules.specs.Basics.{when◌then◌else◌, sum16};
 ghost use Rattle.assembly_rules.specs.Assembly.{lines_of, assembled, answer, left};
 ghost use Rattle.assembler.specs.Passes.{ending, bytes_of, fitted_to, step_to, Passes};
 ghost use Rattle.assembler.specs.Cuts.{Cuts};
@@ -116,7 +116,7 @@ fn put_line(bytes: &mut [u8], at: usize, l: Line)
 
 fn put_if(bytes: &mut [u8], at: usize, l: Line, writing: bool)
     requires { at + length (bytes_of l) ≤ length bytes.old }
-    ensures { bytes.new ≡ (if writing then sets bytes.old at (bytes_of l) else bytes.old) }
+    ensures { bytes.new ≡ (when writing then sets bytes.old at (bytes_of l) else bytes.old) }
 {
     if writing {
         put_line(bytes, at, l);

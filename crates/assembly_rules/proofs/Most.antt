@@ -6,7 +6,7 @@ use mathlib.Core.Bool.{Bool, true, false}
 use mathlib.Core.List.{List, [], ◌∷◌, ◌++◌}
 use lib.Dec.{leb}
 use lib.ListN.{length, length-append}
-use Rattle.rules.specs.Basics.{if◌then◌else◌, sum16}
+use Rattle.rules.specs.Basics.{when◌then◌else◌, sum16}
 use Rattle.assembly_rules.specs.declared.Fault.{Fault}
 use Rattle.assembly_rules.specs.declared.Line.{Line}
 use Rattle.assembly_rules.specs.declared.Line.TheVariants.{Nothing, One, Two, Three, Wrong}
@@ -21,7 +21,7 @@ module _ (room n k : ℕ) (before : List ℕ) (go_on : List ℕ → Made)
   fitted_within : (bytes : List ℕ) → length bytes ≤ 3 → Within (length before + 3 + k) (fitted room n before go_on bytes)
   fitted_within bytes h = go (leb (length before + length bytes) room)
     where
-      go : (b : Bool) → Within (length before + 3 + k) (if b then go_on (before ++ bytes) else wrong Fault.NoRoom n)
+      go : (b : Bool) → Within (length before + 3 + k) (when b then go_on (before ++ bytes) else wrong Fault.NoRoom n)
       go true all e = rest bytes h all e
       go false all e = let z : ◌≡◌ {A = ℕ} 0 1 = cc in absurd (omega arith)
 

@@ -9,7 +9,7 @@ use borrow.Author.Tests.{eqb-true, leb-true, lt-ltb, le-ltb, le-leb}
 use lib.Dec.{ltb, leb, eqb}
 use lib.ListN.{length, take, drop, length-append, length-drop, take-append-drop}
 use lib.Seq.{get_or-drop, length-take-le, take-append_seam}
-use Rattle.rules.specs.Basics.{if◌then◌else◌, all, at, sum16}
+use Rattle.rules.specs.Basics.{when◌then◌else◌, all, at, sum16}
 use Rattle.rules.specs.Opcodes.{Entry, decode, size_of, is_defined, instruction_of}
 use Rattle.rules.specs.Operations.{target}
 use Rattle.rules.specs.Step.{front}
@@ -314,21 +314,21 @@ module _ (bytes : List ℕ) where
   takes shape.Indirect h = takes_three bytes h
 
 module _ (room n : ℕ) (before : List ℕ) (go_on : List ℕ → Made) where
-  judged_for : (s : Shape) (opcode low high : ℕ) →
-      judged room n before go_on (line_for s opcode low high) ≡ fitted room n before go_on (bytes_for s opcode low high)
-  judged_for shape.Implied opcode low high = refl
-  judged_for shape.Accumulator opcode low high = refl
-  judged_for shape.Immediate opcode low high = refl
-  judged_for shape.Zero opcode low high = refl
-  judged_for shape.ZeroX opcode low high = refl
-  judged_for shape.ZeroY opcode low high = refl
-  judged_for shape.IndirectX opcode low high = refl
-  judged_for shape.IndirectY opcode low high = refl
-  judged_for shape.Relative opcode low high = refl
-  judged_for shape.Absolute opcode low high = refl
-  judged_for shape.AbsoluteX opcode low high = refl
-  judged_for shape.AbsoluteY opcode low high = refl
-  judged_for shape.Indirect opcode low high = refl
+  judged_for : (s : Shape) (opcode second third : ℕ) →
+      judged room n before go_on (line_for s opcode second third) ≡ fitted room n before go_on (bytes_for s opcode second third)
+  judged_for shape.Implied opcode second third = refl
+  judged_for shape.Accumulator opcode second third = refl
+  judged_for shape.Immediate opcode second third = refl
+  judged_for shape.Zero opcode second third = refl
+  judged_for shape.ZeroX opcode second third = refl
+  judged_for shape.ZeroY opcode second third = refl
+  judged_for shape.IndirectX opcode second third = refl
+  judged_for shape.IndirectY opcode second third = refl
+  judged_for shape.Relative opcode second third = refl
+  judged_for shape.Absolute opcode second third = refl
+  judged_for shape.AbsoluteX opcode second third = refl
+  judged_for shape.AbsoluteY opcode second third = refl
+  judged_for shape.Indirect opcode second third = refl
 
 module _ (a : ℕ) (bytes : List ℕ) (small : Bytes bytes) (some : 0 < length bytes) where
   abbrev entry : Entry
@@ -429,7 +429,7 @@ module _ (start room : ℕ) where
       le-leb (length before + length part) room (omega (arith, size-part, size.1)) in
       ap (lines start room n before) text
       ∙ one.makes room n before go_on
-      ∙ ap (λ (t : Bool). if t then go_on (before ++ part) else wrong Fault.NoRoom n) room-here
+      ∙ ap (λ (t : Bool). when t then go_on (before ++ part) else wrong Fault.NoRoom n) room-here
       ∙ later (suc n) (before ++ part) rest' (omega (arith, size-rest, size.0)) (bytes_behind all l.size small)
       (omega (arith, size-rest, size-part, size.1, length-append before part))
       ∙ ap made (append_assoc before part rest' ∙ ap (λ (t : List ℕ). before ++ t) (take-append-drop l.size all))

@@ -1,7 +1,7 @@
 -- What a text assembles to, and what the caller is told.
 use Rattle.std.specs.Prelude.{ℕ, suc, ◌+◌, ◌*◌, ◌%◌, ◌^◌, Bool, false, ◌&&◌, List, [], ◌∷◌, ◌++◌, leb, eqb, length}
 use Prim.Native.Char.{code}
-use Rattle.rules.specs.Basics.{if◌then◌else◌, sum16}
+use Rattle.rules.specs.Basics.{when◌then◌else◌, sum16}
 use Rattle.rules.specs.Step.{front}
 use Rattle.assembly_rules.specs.declared.Fault.{Fault}
 use Rattle.assembly_rules.specs.declared.Fault.TheVariants.{NotALine, NoSuchMode, BranchTooFar, TooDeep, NoRoom}
@@ -24,8 +24,8 @@ onto c (l ∷ ls) = (c ∷ l) ∷ ls
 unfoldable pub lines_of : List ℕ → List (List ℕ)
 lines_of [] = []
 lines_of (c ∷ s) =
-    if eqb c (code "\n") then [] ∷ lines_of s
-    else if eqb c (code "\r") && begins_with_lf s then lines_of s else onto c (lines_of s)
+    when eqb c (code "\n") then [] ∷ lines_of s
+    else when eqb c (code "\r") && begins_with_lf s then lines_of s else onto c (lines_of s)
 
 -- a text's bytes, or what is wrong and in which line
 pub data Made : Type 0 where
@@ -34,7 +34,7 @@ pub data Made : Type 0 where
 
 -- "34 no room": the bytes of line n behind those of the lines before it
 abbrev pub fitted : ℕ → ℕ → List ℕ → (List ℕ → Made) → List ℕ → Made
-fitted room n before go_on bytes = if leb (length before + length bytes) room then go_on (before ++ bytes) else wrong NoRoom n
+fitted room n before go_on bytes = when leb (length before + length bytes) room then go_on (before ++ bytes) else wrong NoRoom n
 
 abbrev pub judged : ℕ → ℕ → List ℕ → (List ℕ → Made) → Line → Made
 judged room n before go_on Nothing = fitted room n before go_on []

@@ -2,7 +2,7 @@
 use Rattle.std.specs.Prelude.{ℕ, zero, suc, ◌+◌, ◌-◌, ◌*◌, Bool, ◌||◌, List, [], ◌∷◌, ltb, eqb}
 use Prim.Native.Char.{code}
 use Prim.Native.String.{String, [] as none, ◌∷◌ as ◌then◌}
-use Rattle.rules.specs.Basics.{if◌then◌else◌}
+use Rattle.rules.specs.Basics.{when◌then◌else◌}
 
 abbrev pub said : String → List ℕ
 said none = []
@@ -11,8 +11,8 @@ said (c then s) = code c ∷ said s
 -- a character's place among 0 to 9 and A to Z, "small or large"; 36 is that of any other
 abbrev pub place : ℕ → ℕ
 place c =
-    if ltb c 48 then 36 else if ltb c 58 then c - 48 else if ltb c 65 then 36 else if ltb c 91 then c - 55 else
-    if ltb c 97 then 36 else if ltb c 123 then c - 87 else 36
+    when ltb c 48 then 36 else when ltb c 58 then c - 48 else when ltb c 65 then 36 else when ltb c 91 then c - 55 else
+    when ltb c 97 then 36 else when ltb c 123 then c - 87 else 36
 
 -- what was read of a text, as a number; how many characters more could have been, and what follows
 pub record Run : Type 0 where
@@ -25,7 +25,7 @@ abbrev pub run : ℕ → ℕ → ℕ → List ℕ → Run
 run base zero n s = record { value = n; left = 0; rest = s }
 run base (suc k) n [] = record { value = n; left = suc k; rest = [] }
 run base (suc k) n (c ∷ s) =
-    if ltb (place c) base then run base k (n * base + place c) s else record { value = n; left = suc k; rest = c ∷ s }
+    when ltb (place c) base then run base k (n * base + place c) s else record { value = n; left = suc k; rest = c ∷ s }
 
 -- "spaces and tabs may stand between words and at both ends"
 abbrev pub is_space : ℕ → Bool
@@ -33,7 +33,7 @@ is_space c = eqb c (code " ") || eqb c (code "\t")
 
 abbrev pub skip : List ℕ → List ℕ
 skip [] = []
-skip (c ∷ s) = if is_space c then skip s else c ∷ s
+skip (c ∷ s) = when is_space c then skip s else c ∷ s
 
 -- a character, and what follows; 256, which is none, stands for the end
 pub record Next : Type 0 where

@@ -2,7 +2,7 @@
 use Rattle.std.specs.Prelude.{ℕ, zero, suc, ◌/◌, ◌%◌, ◌&&◌, List, [], ◌∷◌, ◌++◌, leb, length, drop}
 use Prim.Native.Char.{code}
 use Rattle.rules.specs.declared.Instruction.{Instruction}
-use Rattle.rules.specs.Basics.{if◌then◌else◌, at, sum16}
+use Rattle.rules.specs.Basics.{when◌then◌else◌, at, sum16}
 use Rattle.rules.specs.Opcodes.{decode, size_of, is_defined, instruction_of}
 use Rattle.rules.specs.Operations.{target}
 use Rattle.rules.specs.Step.{front}
@@ -49,7 +49,7 @@ line_at a bytes =
     let e = decode (at bytes 0) in
     let low = at bytes 1 in
     let high = at bytes 2 in
-    if is_defined e && leb (size_of e) (length bytes) then
+    when is_defined e && leb (size_of e) (length bytes) then
     record { size = size_of e; text = instruction_line a low high (instruction_of e low high) }
     else record { size = 1; text = said "BYTE $" ++ hex (at bytes 0) }
 
@@ -66,7 +66,7 @@ text_of start bytes = listed (length bytes) start bytes
 
 -- "34 no room (the lister's only one)"
 abbrev pub listing : ℕ → ℕ → Listing
-listing size room = if leb size room then Listing.Listed size else Listing.Unlisted NoRoom
+listing size room = when leb size room then Listing.Listed size else Listing.Unlisted NoRoom
 
 abbrev pub listing_word : Listing → ℕ
 listing_word (Listing.Listed size) = told 0 size
@@ -77,5 +77,5 @@ list_words bytes start buffer =
     let text = text_of start bytes in
     record {
       word = listing_word (listing (length text) (length buffer));
-      left = if leb (length text) (length buffer) then front text buffer else buffer;
+      left = when leb (length text) (length buffer) then front text buffer else buffer;
     }

@@ -20,7 +20,7 @@ use Rattle.rules.specs.declared.Stacking.TheVariants.{Php, Plp, Pha, Pla, Rts, R
 use Rattle.rules.specs.declared.Instruction.{Instruction}
 use Rattle.rules.specs.declared.Instruction.TheVariants.{Read, Store, Change, Accumulator, Implied, AtStack, Branch, Jump}
 use Rattle.rules.specs.declared.Instruction.TheVariants.{JumpIndirect, Jsr, Brk, Txs, Cli, Undefined}
-use Rattle.rules.specs.Basics.{if◌then◌else◌}
+use Rattle.rules.specs.Basics.{when◌then◌else◌}
 use Rattle.rules.specs.Opcodes.{Row, rows, instruction_of}
 use Rattle.assembly_rules.specs.declared.Shape.{Shape}
 use Rattle.assembly_rules.specs.declared.Shape.TheVariants as shape
@@ -170,7 +170,7 @@ row_of r = instruction_of r.entry 0 0
 abbrev pub opcode_among : List Row → ℕ → ℕ → ℕ
 opcode_among [] m s = 256
 opcode_among (r ∷ rs) m s =
-    if eqb (name_of (row_of r)) m && eqb (numbered (shape_of (row_of r))) s then r.opcode else opcode_among rs m s
+    when eqb (name_of (row_of r)) m && eqb (numbered (shape_of (row_of r))) s then r.opcode else opcode_among rs m s
 
 unfoldable pub opcode_of : ℕ → Shape → ℕ
 opcode_of m s = opcode_among rows m (numbered s)

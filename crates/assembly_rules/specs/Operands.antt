@@ -1,7 +1,7 @@
 -- What stands behind a name: "modes written as in the data sheets".
 use Rattle.std.specs.Prelude.{ℕ, Bool, List, eqb}
 use Prim.Native.Char.{code}
-use Rattle.rules.specs.Basics.{if◌then◌else◌}
+use Rattle.rules.specs.Basics.{when◌then◌else◌}
 use Rattle.assembly_rules.specs.declared.Operand.{Operand}
 use Rattle.assembly_rules.specs.declared.Operand.TheVariants.{Nothing, Accumulator, Immediate, Address, AddressX, AddressY}
 use Rattle.assembly_rules.specs.declared.Operand.TheVariants.{IndirectX, IndirectY, Indirect, NotOne}
@@ -10,7 +10,7 @@ use Rattle.assembly_rules.specs.Sums.{Read, value, none, sum}
 
 -- the operand, where nothing follows it
 abbrev pub lastly : List ℕ → Operand → Operand
-lastly s o = if eqb (next s).character 256 then o else NotOne
+lastly s o = when eqb (next s).character 256 then o else NotOne
 
 -- "Letters may be small or large": their places
 abbrev pub is_x : ℕ → Bool
@@ -25,30 +25,30 @@ is_a c = eqb (place c) 10
 -- behind a sum and a comma
 abbrev pub indexed : ℕ → Bool → Next → Operand
 indexed v four n =
-    if is_x n.character then lastly n.rest (AddressX v four)
-    else if is_y n.character then lastly n.rest (AddressY v four) else NotOne
+    when is_x n.character then lastly n.rest (AddressX v four)
+    else when is_y n.character then lastly n.rest (AddressY v four) else NotOne
 
 -- a sum, "sum,X" or "sum,Y"
 abbrev pub plain : Read → Operand
 plain none = NotOne
 plain (value v four s) =
     let n = next s in
-    if eqb n.character 256 then Address v four
-    else if eqb n.character (code ",") then indexed v four (next n.rest) else NotOne
+    when eqb n.character 256 then Address v four
+    else when eqb n.character (code ",") then indexed v four (next n.rest) else NotOne
 
 -- behind (sum,
 abbrev pub inside_x : ℕ → Next → Operand
 inside_x v n =
-    if is_x n.character then
-    (let p = next n.rest in if eqb p.character (code ")") then lastly p.rest (IndirectX v) else NotOne)
+    when is_x n.character then
+    (let p = next n.rest in when eqb p.character (code ")") then lastly p.rest (IndirectX v) else NotOne)
     else NotOne
 
 -- behind (sum)
 abbrev pub behind : ℕ → Next → Operand
 behind v n =
-    if eqb n.character 256 then Indirect v
-    else if eqb n.character (code ",") then
-    (let p = next n.rest in if is_y p.character then lastly p.rest (IndirectY v) else NotOne)
+    when eqb n.character 256 then Indirect v
+    else when eqb n.character (code ",") then
+    (let p = next n.rest in when is_y p.character then lastly p.rest (IndirectY v) else NotOne)
     else NotOne
 
 -- "(sum,X)", "(sum),Y" or "(sum)", behind the first bracket
@@ -56,8 +56,8 @@ abbrev pub pointed : Read → Operand
 pointed none = NotOne
 pointed (value v four s) =
     let n = next s in
-    if eqb n.character (code ",") then inside_x v (next n.rest)
-    else if eqb n.character (code ")") then behind v (next n.rest) else NotOne
+    when eqb n.character (code ",") then inside_x v (next n.rest)
+    else when eqb n.character (code ")") then behind v (next n.rest) else NotOne
 
 abbrev pub immediate : Read → Operand
 immediate none = NotOne
@@ -66,8 +66,8 @@ immediate (value v four s) = lastly s (Immediate v)
 unfoldable pub operand : List ℕ → Operand
 operand s =
     let n = next s in
-    if eqb n.character 256 then Nothing
-    else if eqb n.character (code "#") then immediate (sum n.rest)
-    else if eqb n.character (code "(") then pointed (sum n.rest)
-    else if is_a n.character then lastly n.rest Accumulator
+    when eqb n.character 256 then Nothing
+    else when eqb n.character (code "#") then immediate (sum n.rest)
+    else when eqb n.character (code "(") then pointed (sum n.rest)
+    else when is_a n.character then lastly n.rest Accumulator
     else plain (sum s)

@@ -16,7 +16,7 @@ use Rattle.rules.specs.declared.Stacking.TheVariants.{Php, Plp, Pha, Pla, Rts, R
 use Rattle.rules.specs.declared.Instruction.{Instruction}
 use Rattle.rules.specs.declared.Instruction.TheVariants.{Read, Store, Change, Accumulator, Implied, AtStack, Branch, Jump, JumpIndirect}
 use Rattle.rules.specs.declared.Instruction.TheVariants.{Jsr, Brk, Txs, Cli, Undefined}
-use Rattle.rules.specs.Basics.{if◌then◌else◌}
+use Rattle.rules.specs.Basics.{when◌then◌else◌}
 
 -- Columns and rows by their number. What stands last is taken for every greater number.
 
@@ -65,52 +65,52 @@ abbrev pub at18 : ℕ → Instruction
 at18 a = get_or rows18 a (Implied Sed)
 
 abbrev pub at1a : ℕ → Instruction
-at1a a = if eqb a 4 then Txs else if eqb a 5 then Implied Tsx else Undefined
+at1a a = when eqb a 4 then Txs else when eqb a 5 then Implied Tsx else Undefined
 
 -- The column in `modes`.
 
 abbrev pub bank_column : ℕ → ℕ → ℕ
-bank_column a b = if eqb (a / 2) 2 then (if eqb b 4 then 9 else b) else b
+bank_column a b = when eqb (a / 2) 2 then (when eqb b 4 then 9 else b) else b
 
 abbrev pub index_column : ℕ → ℕ → ℕ → ℕ
 index_column a b x =
-    if eqb b 0 then 2
-    else if eqb x 1 then (if eqb (a / 2) 2 then (if eqb b 5 then 8 else if eqb b 7 then 6 else b) else b)
+    when eqb b 0 then 2
+    else when eqb x 1 then (when eqb (a / 2) 2 then (when eqb b 5 then 8 else when eqb b 7 then 6 else b) else b)
     else b
 
 unfoldable pub group_one : ℕ → ℕ → Mode → Instruction
-group_one a b m = if eqb a 4 then (if eqb b 2 then Undefined else Store Sta m) else Read (reading_of a) m
+group_one a b m = when eqb a 4 then (when eqb b 2 then Undefined else Store Sta m) else Read (reading_of a) m
 
 abbrev pub change_row : ℕ → ℕ
-change_row a = if ltb a 4 then a else a - 2
+change_row a = when ltb a 4 then a else a - 2
 
 -- Here and below x is c's upper bit: 1 in group 2, 0 in group 0.
 
 unfoldable pub with_mode : ℕ → ℕ → ℕ → Mode → Instruction
 with_mode a b x m =
-    if eqb a 4 then (if eqb b 0 then Undefined else if eqb b 7 then Undefined else if eqb x 1 then Store Stx m else Store Sty m)
-    else if eqb a 5 then (if eqb x 1 then Read Ldx m else Read Ldy m)
-    else if eqb x 1 then (if eqb b 0 then Undefined else Change (changing_of (change_row a)) m)
-    else if ltb 3 b then Undefined
-    else Read (if eqb a 6 then Cpy else Cpx) m
+    when eqb a 4 then (when eqb b 0 then Undefined else when eqb b 7 then Undefined else when eqb x 1 then Store Stx m else Store Sty m)
+    else when eqb a 5 then (when eqb x 1 then Read Ldx m else Read Ldy m)
+    else when eqb x 1 then (when eqb b 0 then Undefined else Change (changing_of (change_row a)) m)
+    else when ltb 3 b then Undefined
+    else Read (when eqb a 6 then Cpy else Cpx) m
 
 unfoldable pub control : ℕ → ℕ → ℕ → ℕ → Instruction
 control a b low high =
-    if eqb b 0 then (if eqb a 0 then Brk else if eqb a 1 then Jsr low else if eqb a 2 then AtStack Rti else AtStack Rts)
-    else if eqb a 0 then Undefined
-    else if ltb 3 b then Undefined
-    else if eqb a 1 then Read Bit (mode_of b low high)
-    else if eqb b 1 then Undefined
-    else if eqb a 2 then Jump low high
+    when eqb b 0 then (when eqb a 0 then Brk else when eqb a 1 then Jsr low else when eqb a 2 then AtStack Rti else AtStack Rts)
+    else when eqb a 0 then Undefined
+    else when ltb 3 b then Undefined
+    else when eqb a 1 then Read Bit (mode_of b low high)
+    else when eqb b 1 then Undefined
+    else when eqb a 2 then Jump low high
     else JumpIndirect low high
 
 unfoldable pub even_group : ℕ → ℕ → ℕ → ℕ → ℕ → Instruction
 even_group a b x low high =
-    if eqb b 4 then (if eqb x 1 then Undefined else Branch (condition_of a) low)
-    else if eqb b 2 then (if eqb x 1 then at0a a else at08 a)
-    else if eqb b 6 then (if eqb x 1 then at1a a else at18 a)
-    else if eqb x 1 then with_mode a b x (mode_of (index_column a b x) low high)
-    else if ltb a 4 then control a b low high
+    when eqb b 4 then (when eqb x 1 then Undefined else Branch (condition_of a) low)
+    else when eqb b 2 then (when eqb x 1 then at0a a else at08 a)
+    else when eqb b 6 then (when eqb x 1 then at1a a else at18 a)
+    else when eqb x 1 then with_mode a b x (mode_of (index_column a b x) low high)
+    else when ltb a 4 then control a b low high
     else with_mode a b x (mode_of (index_column a b x) low high)
 
 unfoldable pub by_fields : ℕ → ℕ → ℕ → Instruction
@@ -118,4 +118,4 @@ by_fields n low high =
     let a = n / 32 in
     let b = n / 4 % 8 in
     let x = n / 2 % 2 in
-    if eqb (n % 2) 1 then (if eqb x 1 then Undefined else group_one a b (mode_of (bank_column a b) low high)) else even_group a b x low high
+    when eqb (n % 2) 1 then (when eqb x 1 then Undefined else group_one a b (mode_of (bank_column a b) low high)) else even_group a b x low high

@@ -20,7 +20,7 @@
 
 ghost use Rattle.std.specs.Prelude.{◌≡◌, eqb};
 ghost use Rattle.rules.specs.declared.Reading.TheVariants.{Cpx, Cpy};
-ghost use Rattle.rules.specs.Basics.{if◌then◌else◌};
+ghost use Rattle.rules.specs.Basics.{when◌then◌else◌};
 ghost use Rattle.rules.specs.Opcodes.{decode, instruction_of};
 ghost use Rattle.decode.specs.Fields.{mode_of, reading_of, changing_of, condition_of, at08, at0a, at18, at1a};
 ghost use Rattle.decode.specs.Fields.{bank_column, index_column, change_row, group_one, with_mode, control, even_group, by_fields};
@@ -116,7 +116,7 @@ fn index_column(a: u8, b: u8, x: u8) -> u8
 }
 
 fn comparing(a: u8) -> Reading
-    ensures { result ≡ (if eqb a 6 then Cpy else Cpx) }
+    ensures { result ≡ (when eqb a 6 then Cpy else Cpx) }
 {
     if a == 6 {
         return Reading::Cpy;

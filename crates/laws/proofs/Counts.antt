@@ -10,7 +10,7 @@ use lib.Dec.{eqb, eqb-zero-suc, eqb-suc-zero, eqb-suc-suc}
 use lib.ListN.{length, set, length-set, length-append, get_or-append}
 use lib.Seq.{get_or-append-add}
 use borrow.Author.Tests.{leb-true, eqb-true}
-use Rattle.rules.specs.Basics.{if◌then◌else◌, all, bit, at}
+use Rattle.rules.specs.Basics.{when◌then◌else◌, all, bit, at}
 use Rattle.rules.specs.declared.Refusal.{Refusal}
 use Rattle.rules.specs.declared.CountAnswer.TheVariants.{Counted, Uncounted}
 use Rattle.rules.specs.declared.Counting.{Counting}
@@ -80,7 +80,7 @@ module _ (kind : ℕ) (counts l : List ℕ) (p : ℕ) (inside : p < length count
   of_page k = eqb (kind_of l k) kind && eqb (page_of l k) p
 
   one_more : (b : Bool) (before : List ℕ) (n : ℕ) → p < length before →
-      at (if b then raised before (page_of l n) else before) p ≡ at before p + bit (b && eqb (page_of l n) p)
+      at (when b then raised before (page_of l n) else before) p ≡ at before p + bit (b && eqb (page_of l n) p)
   one_more true before n h = raised_at before (page_of l n) p h
   one_more false before n h = omega arith
 
@@ -99,7 +99,7 @@ Bytes l = (k : ℕ) → at l k < 256
 
 -- a record raises one of the two counts of its page
 one_raised : (kind p : ℕ) (r w : List ℕ) → kind ≤ 1 → p < length r → p < length w →
-    sum (if eqb kind 0 then raised r p else r) + sum (if eqb kind 1 then raised w p else w) ≡ sum r + sum w + 1
+    sum (when eqb kind 0 then raised r p else r) + sum (when eqb kind 1 then raised w p else w) ≡ sum r + sum w + 1
 one_raised zero p r w h i j = let e = sum_raised r p i in omega arith
 one_raised (suc zero) p r w h i j = let e = sum_raised w p j in omega arith
 one_raised (suc (suc k)) p r w h i j = absurd (omega arith)

@@ -5,7 +5,7 @@ use mathlib.Core.Path.{◌≡◌, refl, ap}
 use mathlib.Core.Bool.{Bool, true, false}
 use mathlib.Core.List.{List, [], ◌∷◌, ◌++◌}
 use lib.ListN.{length}
-use Rattle.rules.specs.Basics.{if◌then◌else◌}
+use Rattle.rules.specs.Basics.{when◌then◌else◌}
 use Rattle.rules.specs.Cycles.{Bank, Cycles, done, read, write, ◌>>=◌, Device, Access, Ran, listed, run}
 
 -- one run, and then another from where it ended
@@ -71,7 +71,7 @@ most_bind (suc n) m (write why b p v t) k q r = go (most_bind n m t k q r)
     go : Most (n + m) (t >>= k) → Most (suc n + m) (write why b p v (t >>= k))
     go h = let e : suc n + m ≡ suc (n + m) = omega arith in rw e h
 
-pub most_if : {A : Type 0} (n : ℕ) (b : Bool) (t u : Cycles A) → Most n t → Most n u → Most n (if b then t else u)
+pub most_if : {A : Type 0} (n : ℕ) (b : Bool) (t u : Cycles A) → Most n t → Most n u → Most n (when b then t else u)
 most_if n true t u p q = p
 most_if n false t u p q = q
 

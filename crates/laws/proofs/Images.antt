@@ -12,7 +12,7 @@ use Rattle.rules.specs.declared.Bus.{Bus}
 use Rattle.rules.specs.declared.Cpu.{Cpu}
 use Rattle.rules.specs.declared.State.{State}
 use Rattle.rules.specs.declared.StepAnswer.{StepAnswer}
-use Rattle.rules.specs.Basics.{if◌then◌else◌, at}
+use Rattle.rules.specs.Basics.{when◌then◌else◌, at}
 use Rattle.rules.specs.Cycles.{Bank, execution, Ran}
 use Rattle.rules.specs.Opcodes.{decode, is_defined}
 use Rattle.rules.specs.declared.Event.{Event}
@@ -33,7 +33,7 @@ holds_poke : (l : List ℕ) (f : Chart) → Holds l f → (i v : ℕ) → Holds 
 holds_poke l f h i v = record { size = length-set l i v ∙ h.size; bytes = λ j. go j (ℕ_discrete j i) (ltb i f.size) refl }
   where
     go : (j : ℕ) → Dec (j ≡ i) → (b : Bool) → ltb i f.size ≡ b →
-        at (set l i v) j ≡ (if eqb j i && ltb i f.size then v else f.byte_at j)
+        at (set l i v) j ≡ (when eqb j i && ltb i f.size then v else f.byte_at j)
     go j (yes e) true q = rw (e, eq-eqb i i refl, q) (get_or-set_same l i v 0 (rw h.size (ltb-true i f.size q)))
     go j (yes e) false q = rw (e, eq-eqb i i refl, q, set_out l i v (rw h.size (ltb-false i f.size q))) (h.bytes i)
     go j (no d) b q = rw (ne_eqb j i d) (get_or-set_other l i j v 0 d ∙ h.bytes j)
@@ -44,7 +44,7 @@ pub record Shown (v : World (List ℕ)) (w : World Chart) : Type 0 where
 
 held_shown : (v : World (List ℕ)) (w : World Chart) → Shown v w → (c : Cell) → held images v c ≡ held charts w c
 held_shown v w s first = ap (λ (b : Bus). b.first) s.bus
-held_shown v w s second = ap (λ (b : Bus). if is6508 b.part then port b else b.second) s.bus
+held_shown v w s second = ap (λ (b : Bus). when is6508 b.part then port b else b.second) s.bus
 held_shown v w s (of_image n) = s.image.bytes n
 
 look_shown : (v : World (List ℕ)) (w : World Chart) → Shown v w → (k : Bank) (p : ℕ) → look images v k p ≡ look charts w k p

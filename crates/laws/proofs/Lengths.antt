@@ -16,7 +16,7 @@ use Rattle.rules.specs.declared.Stacking.TheVariants.{Php, Plp, Pha, Pla, Rts, R
 use Rattle.rules.specs.declared.Instruction.{Instruction}
 use Rattle.rules.specs.declared.Instruction.TheVariants.{Read, Store, Change, Accumulator, Implied, AtStack, Branch, Jump, JumpIndirect}
 use Rattle.rules.specs.declared.Instruction.TheVariants.{Jsr, Brk, Txs, Cli, Undefined}
-use Rattle.rules.specs.Basics.{if◌then◌else◌, address}
+use Rattle.rules.specs.Basics.{when◌then◌else◌, address}
 use Rattle.rules.specs.Cycles.{Bank, execution, indirect, ◌>>=◌, Device, run}
 use Rattle.rules.specs.Opcodes.{Entry, undefined, alone, byte, word, late, Row, rows, among, decode, is_defined}
 use Rattle.rules.specs.Addressing.{load, place, pointer, zero_indexed, indexed, crosses, load_indexed}
@@ -168,7 +168,7 @@ among_short [] n low high h = omega arith
 among_short (r ∷ l) n low high h =
     go (eqb n r.opcode) (among_short l n low high (and_right (leb (entry_most r.entry low high) 6) (short l low high) h))
   where
-    go : (b : Bool) → entry_most (among l n) low high ≤ 6 → entry_most (if b then r.entry else among l n) low high ≤ 6
+    go : (b : Bool) → entry_most (among l n) low high ≤ 6 → entry_most (when b then r.entry else among l n) low high ≤ 6
     go true q = leb-true (entry_most r.entry low high) 6 (and_left (leb (entry_most r.entry low high) 6) (short l low high) h)
     go false q = q
 

@@ -19,7 +19,7 @@ use Rattle.rules.specs.declared.Instruction.TheVariants.{Read, Store, Change, Ac
 use Rattle.rules.specs.declared.Instruction.TheVariants.{Jsr, Brk, Txs, Cli, Undefined}
 use Rattle.rules.specs.declared.Event.{Event}
 use Rattle.rules.specs.declared.Event.TheVariants.{Res, Nmi, Irq, Execute}
-use Rattle.rules.specs.Basics.{if◌then◌else◌, address, sum8}
+use Rattle.rules.specs.Basics.{when◌then◌else◌, address, sum8}
 use Rattle.rules.specs.Cycles.{Bank, execution, indirect, Cycles, done, read, write, ◌>>=◌, Device, Access, run}
 use Rattle.rules.specs.Opcodes.{Entry, undefined, alone, byte, word, late, decode}
 use Rattle.rules.specs.Addressing.{load, place, pointer, zero_indexed, indexed, old_page, crosses, load_indexed}
@@ -72,7 +72,7 @@ purposed_bind (done a) k q r = r a
 purposed_bind (read why b p f) k q r = (q.0, λ v. purposed_bind (f v) k (q.1 v) r)
 purposed_bind (write why b p v t) k q r = (q.0, purposed_bind t k q.1 r)
 
-purposed_if : {A : Type 0} (b : Bool) (t u : Cycles A) → Purposed t → Purposed u → Purposed (if b then t else u)
+purposed_if : {A : Type 0} (b : Bool) (t u : Cycles A) → Purposed t → Purposed u → Purposed (when b then t else u)
 purposed_if true t u p q = p
 purposed_if false t u p q = q
 
@@ -90,7 +90,7 @@ indexed_purposed : (b : Bank) (a i : ℕ) → Purposed (load_indexed b a i)
 unfolding load_indexed
 indexed_purposed b a i = (first (crosses a i), λ v. purposed_if (crosses a i) _ _ (tt, λ w. tt) tt)
   where
-    first : (c : Bool) → Fits (if c then Wasted else Data) 0 (old_page a i)
+    first : (c : Bool) → Fits (when c then Wasted else Data) 0 (old_page a i)
     first true = tt
     first false = tt
 

@@ -12,7 +12,7 @@ use lib.Seq.{drop-cons, drop-length}
 use Rattle.rules.specs.declared.Flags.{Flags}
 use Rattle.rules.specs.declared.State.{State}
 use Rattle.rules.specs.declared.Bus.{Bus}
-use Rattle.rules.specs.Basics.{if◌then◌else◌, all, bit, at, address}
+use Rattle.rules.specs.Basics.{when◌then◌else◌, all, bit, at, address}
 use Rattle.rules.specs.Cycles.{Bank, execution, indirect, Access}
 use Rattle.rules.specs.Flags.{byte_of, flags_of}
 use Rattle.rules.specs.declared.Event.{Event}
@@ -66,7 +66,7 @@ bit_back (suc (suc v)) h = absurd (omega arith)
 level_most : (part v : ℕ) → level_fits part v ≡ true → v ≤ 1
 level_most part v h = go (is6508 part) h
   where
-    go : (b : Bool) → (if b then eqb v 0 else leb v 1) ≡ true → v ≤ 1
+    go : (b : Bool) → (when b then eqb v 0 else leb v 1) ≡ true → v ≤ 1
     go true h = omega (arith, eqb-true v 0 h)
     go false h = leb-true v 1 h
 
@@ -161,11 +161,11 @@ narrow_fits k v h = go (is6509 k) refl (is6508 k) refl h
     go false e true d h = rw (eqb-true k 8 d)
     go false e false d h = absurd (false≢true h)
 
-reset_fits : (k : ℕ) → register_fits k (if is6509 k then 15 else 0) ≡ true
+reset_fits : (k : ℕ) → register_fits k (when is6509 k then 15 else 0) ≡ true
 reset_fits k = go (is6509 k) refl (is6502 k) refl
   where
     go : (a : Bool) → is6509 k ≡ a → (b : Bool) → is6502 k ≡ b →
-        (if b then eqb (if a then 15 else 0) 0 else if a then leb (if a then 15 else 0) 15 else true) ≡ true
+        (when b then eqb (when a then 15 else 0) 0 else when a then leb (when a then 15 else 0) 15 else true) ≡ true
     go true e true d = absurd (omega (arith, eqb-true k 9 e, eqb-true k 2 d))
     go true e false d = refl
     go false e true d = refl
@@ -181,7 +181,7 @@ module _ {M : Type 0} (memory : Memory M) (k c : ℕ) where
 
       go : (h : Bool) → (is6508 w.bus.part || is6509 w.bus.part) ≡ h → (a b : Bool) →
           Fit k c
-          (kept memory w (if h then if a then first else if b then second else of_image (image_at w.bus n p) else of_image
+          (kept memory w (when h then when a then first else when b then second else of_image (image_at w.bus n p) else of_image
           (image_at w.bus n p)) v).bus
       go true e true b = record { part = f.part; protected = f.protected; first = fits e; second = f.second }
       go true e false true = record { part = f.part; protected = f.protected; first = f.first; second = fits e }
@@ -196,7 +196,7 @@ module _ {M : Type 0} (memory : Memory M) (k c : ℕ) where
   bus_fit : (e : Event) (b : Bus) → Fit k c b → Fit k c (bus_at e b)
   unfolding reset_bus
   bus_fit Res b f =
-      let v : register_fits k (if is6509 b.part then 15 else 0) ≡ true = rw f.part (reset_fits k) in
+      let v : register_fits k (when is6509 b.part then 15 else 0) ≡ true = rw f.part (reset_fits k) in
       record { part = f.part; protected = f.protected; first = v; second = v }
   bus_fit Nmi b f = f
   bus_fit Irq b f = f
@@ -210,7 +210,7 @@ module _ {M : Type 0} (memory : Memory M) (k c : ℕ) where
   four_bits : (v : ℕ) → register_fits k v ≡ true → is6509 k ≡ true → v < 16
   four_bits v h e = go (is6502 k) h
     where
-      go : (b : Bool) → (if b then eqb v 0 else if is6509 k then leb v 15 else true) ≡ true → v < 16
+      go : (b : Bool) → (when b then eqb v 0 else when is6509 k then leb v 15 else true) ≡ true → v < 16
       go true q = omega (arith, eqb-true v 0 q)
       go false q = omega (arith, leb-true v 15 (rw e at q))
 
@@ -232,7 +232,7 @@ module _ {M : Type 0} (memory : Memory M) (k c : ℕ) where
 pub level_fits_lem : (k lines pins : ℕ) → lines_fit k lines pins ≡ true → level_fits k (bit (nmi_of lines)) ≡ true
 level_fits_lem k lines pins h = go (is6508 k) (nmi_of lines) (and_right (ltb lines 8) _ (and_left _ (is6508 k || eqb pins 0) h))
   where
-    go : (b n : Bool) → not (b && n) ≡ true → (if b then eqb (bit n) 0 else leb (bit n) 1) ≡ true
+    go : (b n : Bool) → not (b && n) ≡ true → (when b then eqb (bit n) 0 else leb (bit n) 1) ≡ true
     go true true h = h
     go true false h = refl
     go false true h = refl

@@ -15,7 +15,7 @@ use Rattle.rules.specs.declared.RestartAnswer.{RestartAnswer}
 use Rattle.rules.specs.declared.RestartAnswer.TheVariants.{Found, NotFound}
 use Rattle.rules.specs.declared.AppendAnswer.{AppendAnswer}
 use Rattle.rules.specs.declared.AppendAnswer.TheVariants.{At, Full}
-use Rattle.rules.specs.Basics.{if◌then◌else◌}
+use Rattle.rules.specs.Basics.{when◌then◌else◌}
 use Rattle.rules.specs.Record.{well_formed}
 use Rattle.rules.specs.Restart.{whole_of, last_of, record_at, standing, restart_tests, restart, append_tests, append_at, Grown, empty, done}
 use Rattle.rules.specs.Restart.{cut, lost}
@@ -125,7 +125,7 @@ grown_whole (lost {rs} {file} k g) = whole_lost rs file (grown_whole g) k
 -- what the reader is to answer where these records stand, the last one first
 abbrev pub answer_of : List (List ℕ) → ℕ → RestartAnswer
 answer_of [] tail = NotFound FileLength
-answer_of (r ∷ rs) tail = if well_formed r then Found (16 * length rs) tail else NotFound Malformed
+answer_of (r ∷ rs) tail = when well_formed r then Found (16 * length rs) tail else NotFound Malformed
 
 whole_found : (rs : List (List ℕ)) (file : List ℕ) → Whole rs file → restart file ≡ answer_of rs (length file % 16)
 unfolding restart
@@ -169,7 +169,7 @@ found_stands : (rs : List (List ℕ)) (file : List ℕ) (p t u : ℕ) → Stand 
 found_stands [] file p t u s h = let z : ◌≡◌ {A = ℕ} 0 1 = cc in absurd (omega arith)
 found_stands (r ∷ rs) file p t u s h = go (well_formed r) h
   where
-    go : (b : Bool) → (if b then Found (16 * length rs) u else NotFound Malformed) ≡ Found p t → Memᴰ (record_at file p) (r ∷ rs)
+    go : (b : Bool) → (when b then Found (16 * length rs) u else NotFound Malformed) ≡ Found p t → Memᴰ (record_at file p) (r ∷ rs)
     go true e = let q : p ≡ 16 * length rs = cc in Memᴰ.head (ap (record_at file) q ∙ s.0)
     go false e = let z : ◌≡◌ {A = ℕ} 0 1 = cc in absurd (omega arith)
 

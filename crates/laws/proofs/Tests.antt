@@ -7,7 +7,7 @@ use mathlib.Core.Bool.{Bool, true, false, ◌&&◌, false≢true}
 use mathlib.Core.List.{List, [], ◌∷◌, ◌++◌}
 use lib.Arith.{lt_of_le-ne}
 use Rattle.rules.specs.declared.Refusal.{Refusal}
-use Rattle.rules.specs.Basics.{if◌then◌else◌, all}
+use Rattle.rules.specs.Basics.{when◌then◌else◌, all}
 use Rattle.rules.specs.Answers.{Test, tested}
 
 pub and_left : (a b : Bool) → (a && b) ≡ true → a ≡ true
@@ -34,12 +34,12 @@ all_at (suc n) f t k h = go (λ l. all_at n f (and_right (f n) (all n f) t) k l)
     go rest (yes e) = subst (λ (m : ℕ). f m ≡ true) (sym e) (and_left (f n) (all n f) t)
     go rest (no ne) = rest (lt_of_le-ne (le_of_suc-le-suc h) ne)
 
-pub if_case : {A : Type 0} (P : A → Type 0) (b : Bool) (x y : A) → (b ≡ true → P x) → (b ≡ false → P y) → P (if b then x else y)
+pub if_case : {A : Type 0} (P : A → Type 0) (b : Bool) (x y : A) → (b ≡ true → P x) → (b ≡ false → P y) → P (when b then x else y)
 if_case P true x y p q = p refl
 if_case P false x y p q = q refl
 
 pub if_both : {A B : Type 0} (R : A → B → Type 0) (b : Bool) (x y : A) (v w : B) → R x v → R y w →
-    R (if b then x else y) (if b then v else w)
+    R (when b then x else y) (when b then v else w)
 if_both R true x y v w p q = p
 if_both R false x y v w p q = q
 

@@ -5,7 +5,7 @@ use mathlib.Core.Bool.{Bool, true, false, ◌&&◌, not, false≢true}
 use mathlib.Core.List.{List, [], ◌∷◌}
 use borrow.Author.Tests.{eqb-true, ne_eqb}
 use lib.Dec.{eqb}
-use Rattle.rules.specs.Basics.{if◌then◌else◌}
+use Rattle.rules.specs.Basics.{when◌then◌else◌}
 use Rattle.rules.specs.Opcodes.{Row, rows}
 use Rattle.assembly_rules.specs.declared.Shape.{Shape}
 use Rattle.assembly_rules.specs.declared.Shape.TheVariants as shape
@@ -41,13 +41,13 @@ each_name (k ∷ ks) f = f k.named && each_name ks f
 
 abbrev is_among : List Known → ℕ → Bool
 is_among [] m = false
-is_among (k ∷ ks) m = if eqb m k.named then true else is_among ks m
+is_among (k ∷ ks) m = when eqb m k.named then true else is_among ks m
 
 at_name : (ks : List Known) (f : ℕ → Bool) → each_name ks f ≡ true → (m : ℕ) → is_among ks m ≡ true → f m ≡ true
 at_name [] f t m h = absurd (false≢true h)
 at_name (k ∷ ks) f t m h = go (eqb m k.named) refl h (at_name ks f (and_right (f k.named) (each_name ks f) t) m)
   where
-    go : (b : Bool) → eqb m k.named ≡ b → (if b then true else is_among ks m) ≡ true → (is_among ks m ≡ true → f m ≡ true) →
+    go : (b : Bool) → eqb m k.named ≡ b → (when b then true else is_among ks m) ≡ true → (is_among ks m ≡ true → f m ≡ true) →
         f m ≡ true
     go true e g rest = rw (eqb-true m k.named e) (and_left (f k.named) (each_name ks f) t)
     go false e g rest = rest g
@@ -57,8 +57,8 @@ row_none : (ks : List Known) (m : ℕ) → is_among ks m ≡ false → row_among
 row_none [] m h = refl
 row_none (k ∷ ks) m h = go (eqb m k.named) h (row_none ks m)
   where
-    go : (b : Bool) → (if b then true else is_among ks m) ≡ false → (is_among ks m ≡ false → row_among ks m ≡ 0) →
-        (if b then k.row else row_among ks m) ≡ 0
+    go : (b : Bool) → (when b then true else is_among ks m) ≡ false → (is_among ks m ≡ false → row_among ks m ≡ 0) →
+        (when b then k.row else row_among ks m) ≡ 0
     go true g rest = absurd (false≢true (sym g))
     go false g rest = rest g
 

@@ -1,7 +1,7 @@
 -- The 56 mnemonics, each with its row: from bit 8 on the set of its shapes, a bit for each by its number; below that a base, of which all
 -- its opcodes are offsets by the shape. That they say what the rows of the rules say is one computed test: proofs/Laws.antt.
 use Rattle.std.specs.Prelude.{ℕ, ◌+◌, ◌-◌, ◌*◌, ◌/◌, ◌%◌, List, [], ◌∷◌, eqb}
-use Rattle.rules.specs.Basics.{if◌then◌else◌}
+use Rattle.rules.specs.Basics.{when◌then◌else◌}
 use Rattle.assembly_rules.specs.declared.Shape.{Shape}
 use Rattle.assembly_rules.specs.declared.Shape.TheVariants as shape
 use Rattle.assembly_rules.specs.Mnemonics.{name}
@@ -34,7 +34,7 @@ known =
 
 abbrev pub row_among : List Known → ℕ → ℕ
 row_among [] m = 0
-row_among (k ∷ ks) m = if eqb m k.named then k.row else row_among ks m
+row_among (k ∷ ks) m = when eqb m k.named then k.row else row_among ks m
 
 -- 0 where the name is no mnemonic
 abbrev pub row_of : ℕ → ℕ
@@ -42,7 +42,7 @@ row_of m = row_among known m
 
 -- the opcode at an offset, where the row's set has the shape of this weight; else 256
 abbrev pub chosen : ℕ → ℕ → ℕ → ℕ
-chosen row weight offset = if eqb (row / weight % 2) 1 then (row % 256 + offset) % 256 else 256
+chosen row weight offset = when eqb (row / weight % 2) 1 then (row % 256 + offset) % 256 else 256
 
 -- # and a,Y are elsewhere in ORA's group, whose opcodes are odd
 abbrev pub opcode_in : ℕ → Shape → ℕ

@@ -11,7 +11,7 @@ use Rattle.rules.specs.declared.Refusal.{Refusal}
 use Rattle.rules.specs.declared.Refusal.TheVariants.{ListRecord, Total}
 use Rattle.rules.specs.declared.CountAnswer.TheVariants.{Counted, Uncounted}
 use Rattle.rules.specs.declared.Counting.{Counting}
-use Rattle.rules.specs.Basics.{if◌then◌else◌, all}
+use Rattle.rules.specs.Basics.{when◌then◌else◌, all}
 use Rattle.rules.specs.Answers.{tested}
 use Rattle.rules.specs.Pages.{is_record, records_in, counted, sum, form_tests, count_tests, counting, fed, none, counting_of}
 use Rattle.laws.proofs.Tests.{and_true, Hold, tested_both}
@@ -53,7 +53,7 @@ block_refused r w m r' w' d e = (becomes r w m).refuses d (λ i. (sym e i).answe
 
 -- Of a list l of whole records and a block m behind it.
 module _ (l m : List ℕ) (bytes : Bytes l) (whole : length l % 8 ≡ 0) where
-  same_if : (b : Bool) (k : Counting) → (if b then k else k) ≡ k
+  same_if : (b : Bool) (k : Counting) → (when b then k else k) ≡ k
   same_if true k = refl
   same_if false k = refl
 

@@ -10,7 +10,7 @@ use Rattle.rules.specs.declared.Mode.TheVariants.{IndirectBankY}
 use Rattle.rules.specs.declared.Instruction.{Instruction}
 use Rattle.rules.specs.declared.Instruction.TheVariants.{Undefined}
 use Rattle.rules.specs.declared.Purpose.TheVariants.{Opcode, Operand}
-use Rattle.rules.specs.Basics.{if◌then◌else◌, address, sum16}
+use Rattle.rules.specs.Basics.{when◌then◌else◌, address, sum16}
 use Rattle.rules.specs.Cycles.{Bank, execution, Cycles, done, read, ◌>>=◌, ◌>>◌, Ran, run}
 use Rattle.rules.specs.Bus.{World, world, images, look, board}
 use Rattle.rules.specs.Addressing.{get}
@@ -125,8 +125,8 @@ unfolding ◌>>=◌
 opened n pc t {m} {u} {u'} {i} {l} {i'} {l₁} {l'} {a} = go (eqb n 3)
   where
     go : (b : Bool) →
-        Goes {A = Unit {0}} (if b then get Operand (sum16 pc 2) >> done tt else done tt) 2 u i l tt (if b then 3 else 2) u i l₁ →
-        Goes t (if b then 3 else 2) u i l₁ a m u' i' l' → Goes (if b then get Operand (sum16 pc 2) >> t else t) 2 u i l a m u' i' l'
+        Goes {A = Unit {0}} (when b then get Operand (sum16 pc 2) >> done tt else done tt) 2 u i l tt (when b then 3 else 2) u i l₁ →
+        Goes t (when b then 3 else 2) u i l₁ a m u' i' l' → Goes (when b then get Operand (sum16 pc 2) >> t else t) 2 u i l a m u' i' l'
     go true d e = then_do t d e
     go false d e = then_do t d e
 
@@ -156,7 +156,7 @@ unfolding ◌>>=◌
 behind_call n pc t f = go (eqb n 3)
   where
     go : (b : Bool) →
-        (if b then get Operand (sum16 pc 2) >> (t >>= f) else t >>= f) ≡ (if b then get Operand (sum16 pc 2) >> t else t) >>= f
+        (when b then get Operand (sum16 pc 2) >> (t >>= f) else t >>= f) ≡ (when b then get Operand (sum16 pc 2) >> t else t) >>= f
     go true = refl
     go false = refl
 

@@ -3,7 +3,7 @@ use Rattle.std.specs.Prelude.{◌≡◌, ℕ, List, ◌==◌}
 use Rattle.rules.specs.declared.State.{State}
 use Rattle.rules.specs.declared.Purpose.{Purpose}
 use Rattle.rules.specs.declared.Purpose.TheVariants.{Opcode, Operand, Wasted}
-use Rattle.rules.specs.Basics.{if◌then◌else◌, sum16}
+use Rattle.rules.specs.Basics.{when◌then◌else◌, sum16}
 use Rattle.rules.specs.Cycles.{execution, Cycles, done, ◌>>=◌, ◌>>◌}
 use Rattle.rules.specs.Bus.{world, images, look}
 use Rattle.rules.specs.Addressing.{get}
@@ -17,7 +17,7 @@ pub record Found (f : Bytes) (s : State) (i : List ℕ) : Type 0 where
 
 -- what the byte behind the opcode is read for, where n bytes are fetched
 abbrev pub second_for : ℕ → Purpose
-second_for n = if n == 1 then Wasted else Operand
+second_for n = when n == 1 then Wasted else Operand
 
 -- "Each cycle is one access": the first two of every instruction
 abbrev pub begun : ℕ → ℕ → Cycles ℕ

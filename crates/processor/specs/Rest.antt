@@ -10,7 +10,7 @@ use Rattle.rules.specs.declared.Instruction.TheVariants.{Jsr, Brk, Txs, Cli, Und
 use Rattle.rules.specs.declared.Cpu.{Cpu}
 use Rattle.rules.specs.declared.Purpose.TheVariants.{Operand, Data}
 use Rattle.rules.specs.declared.State.{State}
-use Rattle.rules.specs.Basics.{if◌then◌else◌, sum16}
+use Rattle.rules.specs.Basics.{when◌then◌else◌, sum16}
 use Rattle.rules.specs.Cycles.{Bank, execution, Cycles, done, ◌>>=◌, ◌>>◌}
 use Rattle.rules.specs.Bus.{world, images, look}
 use Rattle.rules.specs.Record.{record_of}
@@ -60,11 +60,11 @@ past_in n s = moved (past n s.cpu) s.bus s
 
 -- a tree behind the third of n bytes, if there is one
 abbrev pub behind : {A : Type 0} → ℕ → ℕ → Cycles A → Cycles A
-behind n pc t = if n == 3 then get Operand (sum16 pc 2) >> t else t
+behind n pc t = when n == 3 then get Operand (sum16 pc 2) >> t else t
 
 -- accesses that have been listed once n bytes are fetched: PC+1 is read by all
 abbrev pub begun_by : ℕ → ℕ
-begun_by n = if n == 3 then 3 else 2
+begun_by n = when n == 3 then 3 else 2
 
 unfoldable pub rest : Instruction → Cpu → Cycles Cpu
 rest i c = behind (size_in 2 i) c.pc (perform i (past (size_in 2 i) c))

@@ -7,14 +7,14 @@ use mathlib.Core.List.{List}
 use borrow.Author.Tests.{lt-ltb, le-ltb}
 use lib.Dec.{eqb}
 use Rattle.rules.specs.declared.Bus.{Bus}
-use Rattle.rules.specs.Basics.{if◌then◌else◌, at}
+use Rattle.rules.specs.Basics.{when◌then◌else◌, at}
 use Rattle.rules.specs.Cycles.{Bank}
 use Rattle.rules.specs.Bus.{world, images, first, second, held, look}
 use Rattle.wiring.specs.Wiring.{plain_of, base_of, Part}
 use Rattle.wiring.proofs.Cells.{two, cell_byte, below, cell_register}
 use Rattle.reads.specs.Held.{low_held}
 
-low_held_lem : (u : Bus) (i : List ℕ) (p : ℕ) → p < 2 → held images (world u i) (if eqb p 0 then first else second) ≡ low_held u i p
+low_held_lem : (u : Bus) (i : List ℕ) (p : ℕ) → p < 2 → held images (world u i) (when eqb p 0 then first else second) ≡ low_held u i p
 low_held_lem u i zero h = refl
 low_held_lem u i (suc zero) h = refl
 low_held_lem u i (suc (suc p)) h = absurd (omega arith)

@@ -11,7 +11,7 @@ use lib.ListN.{length, length-append}
 use lib.Seq.{sets}
 use Rattle.rules.specs.declared.Refusal.TheVariants.{Total}
 use Rattle.rules.specs.declared.CountAnswer.TheVariants.{Counted}
-use Rattle.rules.specs.Basics.{if◌then◌else◌, at}
+use Rattle.rules.specs.Basics.{when◌then◌else◌, at}
 use Rattle.rules.specs.Text.{hex, spaced, each, number_line, refusal_line}
 use Rattle.rules.specs.Pages.{sum, page_line, traffic_line, report_text}
 use Rattle.laws.proofs.Tests.{if_case}
@@ -57,7 +57,7 @@ module _ (reads writes : List ℕ) where
   -- the report, as the test of the total comes out
   abbrev reported : Bool → List ℕ
   reported f =
-      if f then each 256 (traffic_line reads writes) ++ number_line (code "T") (sum reads + sum writes) else refusal_line Total
+      when f then each 256 (traffic_line reads writes) ++ number_line (code "T") (sum reads + sum writes) else refusal_line Total
 
   -- the lines and the total, by what the sum is
   pub counts_shown : (total at r : ℕ) (t u v : List ℕ) → 11543 ≤ length t → Sum total ≡ total_of (sum reads + sum writes) →
@@ -65,7 +65,7 @@ module _ (reads writes : List ℕ) where
       Shows (report_text Counted reads writes) r t v
   counts_shown total at r t u v room e a b = go (ltb (sum reads + sum writes) (2 ^ 64)) e
     where
-      go : (f : Bool) → Sum total ≡ (if f then Sum (sum reads + sum writes) else Passed) →
+      go : (f : Bool) → Sum total ≡ (when f then Sum (sum reads + sum writes) else Passed) →
           Shows (reported f) r t v
       go true h =
           let same : total ≡ sum reads + sum writes = cc in
@@ -78,7 +78,7 @@ module _ (reads writes : List ℕ) where
       Shows (report_text Counted reads writes) r t v
   past_shown r t v e s = go (ltb (sum reads + sum writes) (2 ^ 64)) e
     where
-      go : (f : Bool) → Passed ≡ (if f then Sum (sum reads + sum writes) else Passed) →
+      go : (f : Bool) → Passed ≡ (when f then Sum (sum reads + sum writes) else Passed) →
           Shows (reported f) r t v
       go true h = let z : ◌≡◌ {A = ℕ} 0 1 = cc in absurd (omega arith)
       go false h = s

@@ -3,7 +3,7 @@
 #![tactic(auto)]
 
 ghost use Rattle.std.specs.Prelude.{◌+◌, ◌≤◌, ◌≡◌, [], ◌&&◌, eqb, length};
-ghost use Rattle.rules.specs.Basics.{if◌then◌else◌};
+ghost use Rattle.rules.specs.Basics.{when◌then◌else◌};
 ghost use Rattle.rules.specs.Text.{each};
 ghost use Rattle.rules.specs.Pages.{page_line, traffic_line, report_text, report_of};
 ghost use Rattle.rules.specs.declared.CountAnswer.TheVariants.{Counted};
@@ -37,7 +37,7 @@ fn is_idle(reads: u64, writes: u64) -> bool
 // "one line per page with any traffic"
 fn put_traffic(text: &mut [u8], at: usize, page: u8, reads: u64, writes: u64) -> usize
     requires { at + 45 ≤ length text.old }
-    ensures { Puts (if eqb reads 0 && eqb writes 0 then [] else page_line page reads writes) at result text.old
+    ensures { Puts (when eqb reads 0 && eqb writes 0 then [] else page_line page reads writes) at result text.old
         text.new }
 {
     if is_idle(reads, writes) {

@@ -9,7 +9,7 @@ use mathlib.Core.List.{List, [], ◌∷◌}
 use lib.Dec.{eqb}
 use lib.ListN.{take, drop, set, replicate}
 use Rattle.rules.specs.declared.StepAnswer.{StepAnswer}
-use Rattle.rules.specs.Basics.{if◌then◌else◌, at}
+use Rattle.rules.specs.Basics.{when◌then◌else◌, at}
 use Rattle.rules.specs.Bus.{Chart, poked, charts}
 use Rattle.rules.specs.Answers.{step_word}
 use Rattle.rules.specs.Step.{Outcome, step}
@@ -28,7 +28,7 @@ said (c then s) = code c ∷ said s
 -- the numbers of the tests that fail, counted from n: a refused claim names them
 abbrev pub failing : ℕ → List Bool → List ℕ
 failing n [] = []
-failing n (b ∷ bs) = if b then failing (suc n) bs else n ∷ failing (suc n) bs
+failing n (b ∷ bs) = when b then failing (suc n) bs else n ∷ failing (suc n) bs
 
 -- an image of k banks of zeros, and one with bytes from place p on
 abbrev pub zeros : ℕ → Chart

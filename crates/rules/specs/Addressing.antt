@@ -6,7 +6,7 @@ use Rattle.rules.specs.declared.Mode.TheVariants.{Immediate, Zero, ZeroX, ZeroY,
 use Rattle.rules.specs.declared.Mode.TheVariants.{IndirectY, IndirectBankY}
 use Rattle.rules.specs.declared.Purpose.{Purpose}
 use Rattle.rules.specs.declared.Purpose.TheVariants.{Wasted, Pointer, Data}
-use Rattle.rules.specs.Basics.{if◌then◌else◌, address, sum8, sum16}
+use Rattle.rules.specs.Basics.{when◌then◌else◌, address, sum8, sum16}
 use Rattle.rules.specs.Cycles.{Bank, execution, indirect, Cycles, done, read, write, ◌>>=◌, ◌>>◌}
 
 -- one read, and one write, in the execution bank, and what it is for
@@ -44,11 +44,11 @@ crosses a i = not (eqb (sum16 a i / 256) (a / 256))
 
 -- what a load's first read is for: its data, unless a page was crossed
 abbrev pub first_for : ℕ → ℕ → Purpose
-first_for a i = if crosses a i then Wasted else Data
+first_for a i = when crosses a i then Wasted else Data
 
 -- "A load stops at that first read if no page was crossed"
 unfoldable pub load_indexed : Bank → ℕ → ℕ → Cycles ℕ
-load_indexed b a i = read (first_for a i) b (old_page a i) (λ v. if crosses a i then read Data b (sum16 a i) done else done v)
+load_indexed b a i = read (first_for a i) b (old_page a i) (λ v. when crosses a i then read Data b (sum16 a i) done else done v)
 
 -- the byte that a load finds
 unfoldable pub load : Cpu → Mode → Cycles ℕ

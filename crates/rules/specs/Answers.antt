@@ -17,7 +17,7 @@ use Rattle.rules.specs.declared.Verdict.{Verdict}
 use Rattle.rules.specs.declared.Verdict.TheVariants.{Accepted, Barred}
 use Rattle.rules.specs.declared.CountAnswer.{CountAnswer}
 use Rattle.rules.specs.declared.CountAnswer.TheVariants.{Counted, Uncounted}
-use Rattle.rules.specs.Basics.{if◌then◌else◌}
+use Rattle.rules.specs.Basics.{when◌then◌else◌}
 
 -- A test, and the refusal where it fails.
 pub record Test : Type 0 where
@@ -31,7 +31,7 @@ e unless b = record { refusal = e; holds = b }
 -- "in order": the first test that fails refuses; where none does, the answer is a
 abbrev pub tested : {A : Type 0} → List Test → (Refusal → A) → A → A
 tested [] refuse a = a
-tested (t ∷ ts) refuse a = if t.holds then tested ts refuse a else refuse t.refusal
+tested (t ∷ ts) refuse a = when t.holds then tested ts refuse a else refuse t.refusal
 
 -- "Where an answer is an enum, a definition gives this paper's number and values for each case of the enum." A refusal has a number, and
 -- perhaps a small and a large detail: "6 adds PC and opcode"; "11 and 13 to 16 add the record's index; all other details are 0".

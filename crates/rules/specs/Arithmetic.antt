@@ -5,7 +5,7 @@ use Rattle.rules.specs.declared.Flags.{Flags}
 use Rattle.rules.specs.declared.Result.{Result}
 use Rattle.rules.specs.declared.Changing.{Changing}
 use Rattle.rules.specs.declared.Changing.TheVariants.{Asl, Rol, Lsr, Ror, Dec, Inc}
-use Rattle.rules.specs.Basics.{if◌then◌else◌, bit, bit_of, sum8}
+use Rattle.rules.specs.Basics.{when◌then◌else◌, bit, bit_of, sum8}
 use Rattle.rules.specs.Flags.{nz, with_v, with_c}
 
 -- a byte read as signed, plus 128
@@ -35,11 +35,11 @@ high a = a / 16 * 16
 unfoldable pub low_sum : ℕ → ℕ → ℕ → ℕ
 low_sum a m c =
     let l = a % 16 + m % 16 + c in
-    if leb 10 l then (l + 6) % 16 + 16 else l
+    when leb 10 l then (l + 6) % 16 + 16 else l
 
 -- "if T is at least 160, add 96"
 unfoldable pub high_sum : ℕ → ℕ
-high_sum t = if leb 160 t then t + 96 else t
+high_sum t = when leb 160 t then t + 96 else t
 
 -- "T = high digits (times 16) + L. N is bit 7 of T; V says that the same sum with the high parts read as signed bytes leaves
 -- -128..127; if T is at least 160, add 96; C = T at least 256. Z is the binary sum's."
@@ -65,11 +65,11 @@ decimal_adc a m f =
 unfoldable pub low_difference : ℕ → ℕ → ℕ → ℕ
 low_difference a m c =
     let l = 15 + a % 16 + c - m % 16 in
-    if ltb l 16 then (l + 10) % 16 else l
+    when ltb l 16 then (l + 10) % 16 else l
 
 -- "if negative, subtract 96", of T kept as T + 256: negative is under 256, and -96 is 160 modulo 256
 unfoldable pub high_difference : ℕ → ℕ
-high_difference t = (if ltb t 256 then t + 160 else t) % 256
+high_difference t = (when ltb t 256 then t + 160 else t) % 256
 
 -- "T likewise": T + 256 is 240 + high a + (L + 16) - high m. "All flags are the binary ones."
 abbrev pub decimal_sbc : ℕ → ℕ → Flags → Result
@@ -80,10 +80,10 @@ decimal_sbc a m f =
     }
 
 abbrev pub adc : ℕ → ℕ → Flags → Result
-adc a m f = if f.d then decimal_adc a m f else binary_adc a m f
+adc a m f = when f.d then decimal_adc a m f else binary_adc a m f
 
 abbrev pub sbc : ℕ → ℕ → Flags → Result
-sbc a m f = if f.d then decimal_sbc a m f else binary_sbc a m f
+sbc a m f = when f.d then decimal_sbc a m f else binary_sbc a m f
 
 -- "Compares set N, Z from the difference, C where no borrow."
 abbrev pub compare : ℕ → ℕ → Flags → Flags

@@ -4,7 +4,7 @@ use Rattle.std.specs.Int.Bits.{bit_and, bit_or}
 use Rattle.rules.specs.declared.Bus.{Bus}
 use Rattle.rules.specs.declared.Purpose.{Purpose}
 use Rattle.rules.specs.declared.Purpose.TheVariants.{Opcode, Operand, Wasted, Pointer, Data, Stack, Vector}
-use Rattle.rules.specs.Basics.{if◌then◌else◌, at}
+use Rattle.rules.specs.Basics.{when◌then◌else◌, at}
 use Rattle.rules.specs.Cycles.{Bank, execution, indirect, Device, Access}
 
 -- "part (02, 08, 09)"
@@ -19,7 +19,7 @@ is6509 part = eqb part 0x09
 
 -- "selected bank before the modulo (0 unless 6509)"; "0000 is the execution bank, 0001 the indirect bank"
 unfoldable pub selected : Bus → Bank → ℕ
-selected b k = if is6509 b.part then elim k [ execution ↦ b.first | indirect ↦ b.second ] else 0
+selected b k = when is6509 b.part then elim k [ execution ↦ b.first | indirect ↦ b.second ] else 0
 
 -- What an address reaches: the register at 0000, the one at 0001, or a byte of the image.
 pub data Cell : Type 0 where
@@ -29,13 +29,13 @@ pub data Cell : Type 0 where
 -- 6509: "bank b is bank b modulo k of the image". 6508: "Addresses 0100 to 01FF reach image bytes 0 to 255".
 unfoldable pub image_at : Bus → Bank → ℕ → ℕ
 image_at b k p =
-    if is6509 b.part then selected b k % b.banks * 65536 + p else if is6508 b.part && eqb (p / 256) 1 then p - 256 else p
+    when is6509 b.part then selected b k % b.banks * 65536 + p else when is6508 b.part && eqb (p / 256) 1 then p - 256 else p
 
 -- the 6502 has no registers there; a 6509 has them "in every bank"
 unfoldable pub cell_of : Bus → Bank → ℕ → Cell
 cell_of b k p =
     let cell = of_image (image_at b k p) in
-    if is6508 b.part || is6509 b.part then if eqb p 0 then first else if eqb p 1 then second else cell else cell
+    when is6508 b.part || is6509 b.part then when eqb p 0 then first else when eqb p 1 then second else cell else cell
 
 -- 6508: "Reading 0001 gives the output bit where direction is 1, the pin where it is 0."
 abbrev pub port : Bus → ℕ
@@ -43,14 +43,14 @@ port b = bit_or (bit_and b.second b.first) (bit_and b.pins (255 - b.first))
 
 -- 6509: "four bits; a write is listed whole, its high bits dropped and read as 0"
 abbrev pub narrow : ℕ → ℕ → ℕ
-narrow part v = if is6509 part then v % 16 else v
+narrow part v = when is6509 part then v % 16 else v
 
 abbrev pub with_registers : ℕ → ℕ → Bus → Bus
 with_registers f s b = record { part = b.part; first = f; second = s; pins = b.pins; protected = b.protected; banks = b.banks }
 
 -- RES: "6508 registers 0 or 6509 registers 15"
 unfoldable pub reset_bus : Bus → Bus
-reset_bus b = let v : ℕ = if is6509 b.part then 15 else 0 in with_registers v v b
+reset_bus b = let v : ℕ = when is6509 b.part then 15 else 0 in with_registers v v b
 
 -- "The top c pages are write-protected, judged by the address on the bus"
 abbrev pub is_protected : ℕ → ℕ → Bool
@@ -71,7 +71,7 @@ pub record Chart : Type 0 where
 
 -- a write past the end does nothing, as in a list
 abbrev pub poked : Chart → ℕ → ℕ → Chart
-poked f i v = record { size = f.size; byte_at = λ j. if eqb j i && ltb i f.size then v else f.byte_at j }
+poked f i v = record { size = f.size; byte_at = λ j. when eqb j i && ltb i f.size then v else f.byte_at j }
 
 abbrev pub charts : Memory Chart
 charts = record { size = λ f. f.size; peek = λ f i. f.byte_at i; poke = poked }
@@ -87,7 +87,7 @@ world b m = record { bus = b; image = m }
 module _ {M : Type 0} (memory : Memory M) where
   abbrev pub held : World M → Cell → ℕ
   held w first = w.bus.first
-  held w second = if is6508 w.bus.part then port w.bus else w.bus.second
+  held w second = when is6508 w.bus.part then port w.bus else w.bus.second
   held w (of_image n) = memory.peek w.image n
 
   -- "Register writes leave the image byte beneath unchanged."
@@ -101,7 +101,7 @@ module _ {M : Type 0} (memory : Memory M) where
 
   -- "a write there is listed and changes nothing"
   unfoldable pub stored : World M → Bank → ℕ → ℕ → World M
-  stored w k p v = if is_protected w.bus.protected p then w else kept w (cell_of w.bus k p) v
+  stored w k p v = when is_protected w.bus.protected p then w else kept w (cell_of w.bus k p) v
 
   abbrev pub board : Device (World M)
   board = record { bank = λ w. selected w.bus; look = look; stored = stored }

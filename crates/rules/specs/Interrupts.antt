@@ -4,7 +4,7 @@ use Rattle.rules.specs.declared.Cpu.{Cpu}
 use Rattle.rules.specs.declared.Event.{Event}
 use Rattle.rules.specs.declared.Event.TheVariants.{Res, Nmi, Irq, Execute}
 use Rattle.rules.specs.declared.Purpose.TheVariants.{Wasted, Stack}
-use Rattle.rules.specs.Basics.{if◌then◌else◌, bit_of}
+use Rattle.rules.specs.Basics.{when◌then◌else◌, bit_of}
 use Rattle.rules.specs.Cycles.{Cycles, ◌>>◌}
 use Rattle.rules.specs.Flags.{byte_of}
 use Rattle.rules.specs.Addressing.{get, put}
@@ -23,7 +23,7 @@ irq_of lines = bit_of 4 lines
 -- "First that applies: RES; NMI asserted with last level 0; IRQ with I = 0; else the instruction at PC." last is the last NMI level.
 unfoldable pub event_of : ℕ → Bool → Cpu → Event
 event_of lines last c =
-    if res_of lines then Res else if nmi_of lines && not last then Nmi else if irq_of lines && not c.p.i then Irq else Execute
+    when res_of lines then Res else when nmi_of lines && not last then Nmi else when irq_of lines && not c.p.i then Irq else Execute
 
 -- "IRQ, NMI: read PC twice, push PC high, low, P (bit 4 clear), read the vector (FFFE, FFFA), set I."
 unfoldable pub interrupt : ℕ → Cpu → Cycles Cpu

@@ -13,7 +13,7 @@ use Rattle.rules.specs.declared.Stacking.TheVariants.{Php, Plp, Pha, Pla, Rts, R
 use Rattle.rules.specs.declared.Instruction.{Instruction}
 use Rattle.rules.specs.declared.Instruction.TheVariants.{Read, Store, Change, Accumulator, Implied, AtStack, Branch, Jump}
 use Rattle.rules.specs.declared.Instruction.TheVariants.{JumpIndirect, Jsr, Brk, Txs, Cli, Undefined}
-use Rattle.rules.specs.Basics.{if◌then◌else◌}
+use Rattle.rules.specs.Basics.{when◌then◌else◌}
 
 -- What an opcode stands for: nothing, or an instruction that is made of no operand, of a byte, of an address (low byte first), or, late, of
 -- the low byte of an address whose high byte is read by the instruction itself.
@@ -153,7 +153,7 @@ rows =
 -- the entry of opcode n among some rows
 abbrev pub among : List Row → ℕ → Entry
 among [] n = undefined
-among (r ∷ rs) n = if eqb n r.opcode then r.entry else among rs n
+among (r ∷ rs) n = when eqb n r.opcode then r.entry else among rs n
 
 unfoldable pub decode : ℕ → Entry
 decode n = among rows n

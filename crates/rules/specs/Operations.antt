@@ -18,7 +18,7 @@ use Rattle.rules.specs.declared.Instruction.{Instruction}
 use Rattle.rules.specs.declared.Instruction.TheVariants.{Read, Store, Change, Accumulator, Implied, AtStack, Branch, Jump}
 use Rattle.rules.specs.declared.Instruction.TheVariants.{JumpIndirect, Jsr, Brk, Txs, Cli, Undefined}
 use Rattle.rules.specs.declared.Purpose.TheVariants.{Opcode, Operand, Wasted, Pointer, Data, Stack, Vector}
-use Rattle.rules.specs.Basics.{if◌then◌else◌, address, sum8, sum16}
+use Rattle.rules.specs.Basics.{when◌then◌else◌, address, sum8, sum16}
 use Rattle.rules.specs.Cycles.{Cycles, done, write, ◌>>=◌, ◌>>◌}
 use Rattle.rules.specs.Flags.{byte_of4, flags_of, nz, with_v, with_d, with_i, with_c}
 use Rattle.rules.specs.Arithmetic.{signed, adc, sbc, compare, bit_test, changed}
@@ -106,7 +106,7 @@ target next o = (next + signed o + 65408) % 65536
 unfoldable pub branch_to : ℕ → Cpu → Cycles Cpu
 branch_to to c =
     get Wasted c.pc >>
-    (if eqb (to / 256) (c.pc / 256) then done (with_pc to c) else get Wasted (c.pc / 256 * 256 + to % 256) >> done (with_pc to c))
+    (when eqb (to / 256) (c.pc / 256) then done (with_pc to c) else get Wasted (c.pc / 256 * 256 + to % 256) >> done (with_pc to c))
 
 -- the stack's byte at S, and S lowered by k
 abbrev pub stack : ℕ → ℕ
@@ -195,7 +195,7 @@ perform (Change o m) c = do
 perform (Accumulator o) c = done (with_result (changed o c.a c.p) c)
 perform (Implied o) c = done (inside o c)
 perform (AtStack o) c = at_stack o c
-perform (Branch t o) c = if taken t c.p then branch_to (target c.pc o) c else done c
+perform (Branch t o) c = when taken t c.p then branch_to (target c.pc o) c else done c
 perform (Jump low high) c = done (with_pc (address low high) c)
 perform (JumpIndirect low high) c = jump_indirect (address low high) c
 perform (Jsr low) c = jsr low c

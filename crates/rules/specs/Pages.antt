@@ -5,7 +5,7 @@ use Rattle.rules.specs.declared.Refusal.TheVariants.{ListLength, ListRecord, Tot
 use Rattle.rules.specs.declared.CountAnswer.{CountAnswer}
 use Rattle.rules.specs.declared.CountAnswer.TheVariants.{Counted, Uncounted}
 use Rattle.rules.specs.declared.Counting.{Counting}
-use Rattle.rules.specs.Basics.{if◌then◌else◌, all, at}
+use Rattle.rules.specs.Basics.{when◌then◌else◌, all, at}
 use Rattle.rules.specs.Answers.{Test, ◌unless◌, tested, count_word}
 use Rattle.rules.specs.Text.{hex, spaced, each, number_line, refusal_line}
 
@@ -31,7 +31,7 @@ raised counts page = set counts page (at counts page + 1)
 unfoldable pub counted : ℕ → List ℕ → List ℕ → ℕ → List ℕ
 counted kind counts l zero = counts
 counted kind counts l (suc n) =
-    let before = counted kind counts l n in if eqb (kind_of l n) kind then raised before (page_of l n) else before
+    let before = counted kind counts l n in when eqb (kind_of l n) kind then raised before (page_of l n) else before
 
 unfoldable pub sum : List ℕ → ℕ
 sum [] = 0
@@ -85,13 +85,13 @@ abbrev pub traffic_line : List ℕ → List ℕ → ℕ → List ℕ
 traffic_line reads writes page =
     let r = at reads page in
     let w = at writes page in
-    if eqb r 0 && eqb w 0 then [] else page_line page r w
+    when eqb r 0 && eqb w 0 then [] else page_line page r w
 
 -- "then the total", which 22 keeps within 64 bits
 abbrev pub report_text : CountAnswer → List ℕ → List ℕ → List ℕ
 report_text Counted reads writes =
     let total = sum reads + sum writes in
-    if ltb total (2 ^ 64) then each 256 (traffic_line reads writes) ++ number_line (code "T") total else refusal_line Total
+    when ltb total (2 ^ 64) then each 256 (traffic_line reads writes) ++ number_line (code "T") total else refusal_line Total
 report_text (Uncounted e) reads writes = refusal_line e
 
 unfoldable pub report_of : Counting → List ℕ

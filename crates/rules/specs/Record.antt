@@ -1,7 +1,7 @@
 -- The state record: "16 bytes, no header".
 use Rattle.std.specs.Prelude.{ℕ, ◌+◌, ◌*◌, ◌/◌, ◌%◌, Bool, true, ◌&&◌, ◌||◌, List, [], ◌∷◌, leb, eqb}
 use Rattle.rules.specs.declared.State.{State}
-use Rattle.rules.specs.Basics.{if◌then◌else◌, bit, at, address}
+use Rattle.rules.specs.Basics.{when◌then◌else◌, bit, at, address}
 use Rattle.rules.specs.Flags.{byte_of, flags_of}
 use Rattle.rules.specs.Bus.{is6502, is6508, is6509}
 
@@ -42,15 +42,15 @@ flags_fit p = eqb (p / 16 % 4) 2
 
 -- "Bytes 8, 9 are 0 on the 6502, at most 15 on the 6509."
 abbrev pub register_fits : ℕ → ℕ → Bool
-register_fits part v = if is6502 part then eqb v 0 else if is6509 part then leb v 15 else true
+register_fits part v = when is6502 part then eqb v 0 else when is6509 part then leb v 15 else true
 
 -- "last NMI level (0 or 1)"; "Byte 10 is 0 on the 6508"
 abbrev pub level_fits : ℕ → ℕ → Bool
-level_fits part v = if is6508 part then eqb v 0 else leb v 1
+level_fits part v = when is6508 part then eqb v 0 else leb v 1
 
 -- "byte 11 is 0 on the 6509"
 abbrev pub pages_fit : ℕ → ℕ → Bool
-pages_fit part c = if is6509 part then eqb c 0 else true
+pages_fit part c = when is6509 part then eqb c 0 else true
 
 -- "Anything else is malformed."
 unfoldable pub well_formed : List ℕ → Bool

@@ -5,7 +5,7 @@ use Rattle.rules.specs.declared.Refusal.{Refusal}
 use Rattle.rules.specs.declared.Refusal.TheVariants.{RecordLength, Malformed, ImageLength}
 use Rattle.rules.specs.declared.StepAnswer.{StepAnswer}
 use Rattle.rules.specs.declared.StepAnswer.TheVariants.{Stepped, Refused}
-use Rattle.rules.specs.Basics.{if◌then◌else◌, at}
+use Rattle.rules.specs.Basics.{when◌then◌else◌, at}
 use Rattle.rules.specs.Bus.{Memory, images}
 use Rattle.rules.specs.Record.{well_formed}
 use Rattle.rules.specs.Answers.{Test, ◌unless◌, tested, numbers_of}
@@ -13,7 +13,7 @@ use Rattle.rules.specs.Step.{Outcome, step}
 
 -- 0 to 9, A to F
 abbrev pub digit : ℕ → ℕ
-digit n = if ltb n 10 then code "0" + n else code "A" + (n - 10)
+digit n = when ltb n 10 then code "0" + n else code "A" + (n - 10)
 
 -- a byte in hexadecimal
 abbrev pub hex : ℕ → List ℕ
@@ -22,7 +22,7 @@ hex v = digit (v / 16) ∷ digit (v % 16) ∷ []
 -- a number in decimal, of at most k digits
 unfoldable pub digits : ℕ → ℕ → List ℕ
 digits zero n = []
-digits (suc k) n = if ltb n 10 then digit n ∷ [] else digits k (n / 10) ++ digit (n % 10) ∷ []
+digits (suc k) n = when ltb n 10 then digit n ∷ [] else digits k (n / 10) ++ digit (n % 10) ∷ []
 
 -- a number of 64 bits
 abbrev pub decimal : ℕ → List ℕ
@@ -35,7 +35,7 @@ each (suc n) f = each n f ++ f n
 
 -- "0 read or 1 write"
 abbrev pub letter : ℕ → ℕ
-letter kind = if eqb kind 0 then code "R" else code "W"
+letter kind = when eqb kind 0 then code "R" else code "W"
 
 -- "R or W, bank (one hexadecimal digit), address, value"; a bank is "four bits". Document 02: the purpose, "the digit last on each access
 -- line".

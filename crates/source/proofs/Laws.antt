@@ -8,7 +8,7 @@ use borrow.Author.Tests.{lt-leb}
 use lib.Seq.{sets, take-append_seam, drop-append_seam}
 use Rattle.rules.specs.declared.Instruction.{Instruction}
 use Rattle.rules.specs.declared.Instruction.TheVariants.{Undefined}
-use Rattle.rules.specs.Basics.{if◌then◌else◌, at, sum16}
+use Rattle.rules.specs.Basics.{when◌then◌else◌, at, sum16}
 use Rattle.rules.specs.Opcodes.{Entry, undefined, alone, byte, word, late, decode, size_of, is_defined, instruction_of}
 use Rattle.rules.specs.Step.{front}
 use Rattle.rules.specs.Table.{table}
@@ -64,9 +64,9 @@ abbrev line_by : ℕ → List ℕ → Instruction → Listed
 line_by a rest i = record { size = size_by (shape_of i); text = text_by a (at rest 0) (at rest 1) (at rest 2) i }
 
 whole_line : (a : ℕ) (rest : List ℕ) (i : Instruction) (z t : Bool) → eqb (name_of i) 0 ≡ z → (z ≡ true → size_by (shape_of i) ≡ 1) →
-    (if not z && t then record { size = size_by (shape_of i); text = instruction_line a (at rest 1) (at rest 2) i }
+    (when not z && t then record { size = size_by (shape_of i); text = instruction_line a (at rest 1) (at rest 2) i }
     else record { size = 1; text = said "BYTE $" ++ hex (at rest 0) })
-    ≡ line_by a rest (if t then i else Undefined)
+    ≡ line_by a rest (when t then i else Undefined)
 whole_line a rest i true true e s = rw (e, s refl)
 whole_line a rest i true false e s = refl
 whole_line a rest i false true e s = rw e
@@ -87,8 +87,8 @@ pub measures : (rest : List ℕ) → at rest 0 < 256 →
     let i = whole_in rest in Measures (line_at 0 rest) (count_by (name_of i) (shape_of i)) (size_by (shape_of i))
 measures rest h = let i = whole_in rest in rw (line_is 0 rest h) (record { characters = go i (eqb (name_of i) 0); takes = refl })
   where
-    go : (i : Instruction) (z : Bool) → (if z then 9 else 4 + length (operand_text 0 0 0 (shape_of i)))
-        ≡ length (if z then said "BYTE $" ++ hex (at rest 0) else instruction_line 0 (at rest 1) (at rest 2) i) + 1
+    go : (i : Instruction) (z : Bool) → (when z then 9 else 4 + length (operand_text 0 0 0 (shape_of i)))
+        ≡ length (when z then said "BYTE $" ++ hex (at rest 0) else instruction_line 0 (at rest 1) (at rest 2) i) + 1
     go i true = refl
     go i false = omega (arith, operand_width 0 (at rest 1) (at rest 2) (shape_of i))
 
@@ -222,7 +222,7 @@ answered start room bytes e h = sym e ∙ h ∙ (rw (text_anywhere 0 start bytes
 pub fits : (size room count : ℕ) → Listing.Listed count ≡ listing size room → size ≤ room
 fits size room count e = go (leb size room) refl e
   where
-    go : (b : Bool) → leb size room ≡ b → Listing.Listed count ≡ (if b then Listing.Listed size else Listing.Unlisted NoRoom) →
+    go : (b : Bool) → leb size room ≡ b → Listing.Listed count ≡ (when b then Listing.Listed size else Listing.Unlisted NoRoom) →
         size ≤ room
     go true h g = leb-true size room h
     go false h g = let z : ◌≡◌ {A = ℕ} 0 1 = cc in absurd (omega arith)
@@ -231,7 +231,7 @@ fits size room count e = go (leb size room) refl e
 pub within : (size room count : ℕ) → Listing.Listed count ≡ listing size room → count ≤ room
 within size room count e = go (leb size room) refl e
   where
-    go : (b : Bool) → leb size room ≡ b → Listing.Listed count ≡ (if b then Listing.Listed size else Listing.Unlisted NoRoom) →
+    go : (b : Bool) → leb size room ≡ b → Listing.Listed count ≡ (when b then Listing.Listed size else Listing.Unlisted NoRoom) →
         count ≤ room
     go true h g = let k : count ≡ size = cc in rw k (leb-true size room h)
     go false h g = let z : ◌≡◌ {A = ℕ} 0 1 = cc in absurd (omega arith)
@@ -245,14 +245,14 @@ lists_all l t t' count e h =
 pub lists_none : (l t : List ℕ) (f : Fault) → Listing.Unlisted f ≡ listing (length l) (length t) → Lists l (Listing.Unlisted f) t t
 lists_none l t f e = record { answer = e; text = go (leb (length l) (length t)) e }
   where
-    go : (b : Bool) → Listing.Unlisted f ≡ (if b then Listing.Listed (length l) else Listing.Unlisted NoRoom) →
-        t ≡ (if b then front l t else t)
+    go : (b : Bool) → Listing.Unlisted f ≡ (when b then Listing.Listed (length l) else Listing.Unlisted NoRoom) →
+        t ≡ (when b then front l t else t)
     go true g = let z : ◌≡◌ {A = ℕ} 0 1 = cc in absurd (omega arith)
     go false g = refl
 
 -- the first characters of a line, of which at most so many are put
 abbrev pub up_to : ℕ → ℕ → ℕ
-up_to k count = if ltb k count then k else count
+up_to k count = when ltb k count then k else count
 
 up_behind : (k count : ℕ) → count ≤ k → up_to k count ≡ count
 up_behind k count h = rw (le-ltb k count h)
@@ -262,12 +262,12 @@ up_next k count h =
     if_case (λ (n : ℕ). n ≡ suc k) (ltb (k + 1) count) (k + 1) count (λ e. omega arith) (λ e. omega (arith, h, ltb-false (k + 1) count e))
 
 pub put_more : (t l : List ℕ) (p k count : ℕ) → count ≤ length l →
-    (if ltb k count then set (sets t p (take (up_to k count) l)) (p + k) (at l k) else sets t p (take (up_to k count) l)) ≡
+    (when ltb k count then set (sets t p (take (up_to k count) l)) (p + k) (at l k) else sets t p (take (up_to k count) l)) ≡
     sets t p (take (up_to (k + 1) count) l)
 put_more t l p k count h = go (ltb k count) refl
   where
     go : (b : Bool) → ltb k count ≡ b →
-        (if ltb k count then set (sets t p (take (up_to k count) l)) (p + k) (at l k) else sets t p (take (up_to k count) l)) ≡
+        (when ltb k count then set (sets t p (take (up_to k count) l)) (p + k) (at l k) else sets t p (take (up_to k count) l)) ≡
         sets t p (take (up_to (k + 1) count) l)
     go true e =
         let less = ltb-true k count e in

@@ -4,7 +4,7 @@ use Rattle.std.specs.Prelude.{◌≡◌, ℕ, ◌+◌, ◌≤◌, leb, List, [],
 use Prim.Native.Char.{code}
 use Rattle.rules.specs.declared.Instruction.{Instruction}
 use Rattle.rules.specs.declared.Instruction.TheVariants.{Undefined}
-use Rattle.rules.specs.Basics.{if◌then◌else◌, at}
+use Rattle.rules.specs.Basics.{when◌then◌else◌, at}
 use Rattle.rules.specs.Opcodes.{decode, instruction_of}
 use Rattle.rules.specs.Step.{front}
 use Rattle.rules.specs.Text.{hex}
@@ -16,20 +16,20 @@ use Rattle.assembly_rules.specs.Listing.{operand_text, Listed, instruction_line,
 
 -- "One or two bytes follow": the shapes are numbered by how many
 abbrev pub size_by : Shape → ℕ
-size_by s = if nat_lt (numbered s) 2 then 1 else if nat_lt (numbered s) 9 then 2 else 3
+size_by s = when nat_lt (numbered s) 2 then 1 else when nat_lt (numbered s) 9 then 2 else 3
 
 -- a line's characters with its LF; 0 is no name
 abbrev pub count_by : ℕ → Shape → ℕ
-count_by m s = if m == 0 then 9 else 4 + length (operand_text 0 0 0 s)
+count_by m s = when m == 0 then 9 else 4 + length (operand_text 0 0 0 s)
 
 abbrev pub found_in : List ℕ → Instruction
 found_in bytes = instruction_of (decode (at bytes 0)) (at bytes 1) (at bytes 2)
 
 abbrev pub whole_in : List ℕ → Instruction
-whole_in bytes = let i = found_in bytes in if nat_le (size_by (shape_of i)) (length bytes) then i else Undefined
+whole_in bytes = let i = found_in bytes in when nat_le (size_by (shape_of i)) (length bytes) then i else Undefined
 
 abbrev pub text_by : ℕ → ℕ → ℕ → ℕ → Instruction → List ℕ
-text_by a v low high i = if name_of i == 0 then said "BYTE $" ++ hex v else instruction_line a low high i
+text_by a v low high i = when name_of i == 0 then said "BYTE $" ++ hex v else instruction_line a low high i
 
 -- a line's characters and its LF, at the front of some bytes
 pub record Spells (line bytes : List ℕ) (count : ℕ) : Type 0 where
@@ -48,4 +48,4 @@ pub record Holds (l : Listed) (bytes : List ℕ) (count size : ℕ) : Type 0 whe
 -- the answer, and the buffer: a text at its front where it fits
 pub record Lists (l : List ℕ) (r : Listing) (t t' : List ℕ) : Type 0 where
   pub answer : r ≡ listing (length l) (length t)
-  pub text : t' ≡ (if leb (length l) (length t) then front l t else t)
+  pub text : t' ≡ (when leb (length l) (length t) then front l t else t)

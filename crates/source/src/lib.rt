@@ -4,7 +4,7 @@
 
 ghost use Rattle.std.specs.Prelude.{◌≡◌, ◌+◌, ◌/◌, ◌%◌, ◌<◌, ◌≤◌, true, ◌++◌, length, take, drop, slice_set};
 ghost use Rattle.std.proofs.lemmas.List.Edits.{sets};
-ghost use Rattle.rules.specs.Basics.{if◌then◌else◌, at, sum16};
+ghost use Rattle.rules.specs.Basics.{when◌then◌else◌, at, sum16};
 ghost use Rattle.rules.specs.Text.{hex};
 ghost use Rattle.assembly_rules.specs.Characters.{said};
 ghost use Rattle.assembly_rules.specs.Listing.{letters_of, operand_text, line_at, text_of, listing};
@@ -290,7 +290,7 @@ fn line_at(bytes: &[u8], i: usize, start: u16) -> Line
 
 fn put_if(text: &mut [u8], place: usize, c: u8, here: bool)
     requires { here ≡ true → place < length text.old }
-    ensures { text.new ≡ (if here then slice_set text.old place c else text.old) }
+    ensures { text.new ≡ (when here then slice_set text.old place c else text.old) }
 {
     if here {
         text[place] = c;

@@ -7,7 +7,7 @@ ghost use Rattle.rules.specs.declared.Event.{Event};
 ghost use Rattle.rules.specs.declared.Event.TheVariants.{Irq, Execute};
 ghost use Rattle.rules.specs.declared.Refusal.TheVariants.{Undefined};
 ghost use Rattle.rules.specs.declared.State.{State};
-ghost use Rattle.rules.specs.Basics.{if◌then◌else◌};
+ghost use Rattle.rules.specs.Basics.{when◌then◌else◌};
 ghost use Rattle.rules.specs.Answers.{step_word, refusal_word};
 ghost use Rattle.rules.specs.Interrupts.{irq_of, event_of, interrupt, reset};
 ghost use Rattle.rules.specs.Bus.{images, reset_bus};
@@ -23,7 +23,7 @@ use rules::{Event, Numbers, Refusal};
 
 // "IRQ with I = 0"
 fn irq_event(lines: u8, i: bool) -> Event
-    ensures { result ≡ (if irq_of lines && not i then Irq else Execute) }
+    ensures { result ≡ (when irq_of lines && not i then Irq else Execute) }
 {
     if lines / 4 % 2 == 1 {
         if i {

@@ -2,7 +2,7 @@
 use Rattle.std.specs.Prelude.{ℕ, ◌+◌, ◌*◌, ◌/◌, ◌%◌, ◌^◌, ◌≤◌, ◌<◌, ◌≡◌, true, List}
 use Rattle.rules.specs.declared.Bus.{Bus}
 use Rattle.rules.specs.declared.State.{State}
-use Rattle.rules.specs.Basics.{if◌then◌else◌}
+use Rattle.rules.specs.Basics.{when◌then◌else◌}
 use Rattle.rules.specs.Cycles.{Bank}
 use Rattle.rules.specs.Bus.{is6502, is6508, is6509, selected}
 use Rattle.rules.specs.Record.{register_fits, record_of}
@@ -10,7 +10,7 @@ use Rattle.wiring.specs.declared.Wiring.{Wiring}
 
 -- Addresses below this have a rule of the part's own: the registers, and the 6508's first pages.
 abbrev pub plain_of : ℕ → ℕ
-plain_of part = if is6502 part then 0 else if is6508 part then 512 else 2
+plain_of part = when is6502 part then 0 else when is6508 part then 512 else 2
 
 -- "part (02, 08, 09)"
 pub data Part (n : ℕ) : Type 0 where
@@ -26,7 +26,7 @@ pub record Sound (u : Bus) : Type 0 where
 
 -- where a bank begins in the image
 abbrev pub base_of : Bus → Bank → ℕ
-base_of u κ = if is6509 u.part then selected u κ % u.banks * 65536 else 0
+base_of u κ = when is6509 u.part then selected u κ % u.banks * 65536 else 0
 
 -- "k banks of that size, k = 1, 2, 4, 8 or 16": an image whose banks are a power of two
 pub data Banked (size : ℕ) : Type 0 where

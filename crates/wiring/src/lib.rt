@@ -5,7 +5,7 @@
 ghost use Rattle.std.specs.Prelude.{◌+◌, ◌*◌, ◌/◌, ◌%◌, ◌≤◌, ◌≡◌, length};
 ghost use Rattle.rules.specs.declared.State.{State};
 ghost use Rattle.rules.specs.Cycles.{execution, indirect};
-ghost use Rattle.rules.specs.Basics.{if◌then◌else◌};
+ghost use Rattle.rules.specs.Basics.{when◌then◌else◌};
 ghost use Rattle.rules.specs.Bus.{is6508};
 ghost use Rattle.rules.specs.Record.{record_of};
 ghost use Rattle.wiring.specs.Wiring.{Banked, Sound, Stands};
@@ -23,7 +23,7 @@ pub struct Wiring {
 
 // The first two pages of the 6508 have a rule of their own; on the 6502 no address has.
 fn plain_of(part: u8) -> u16
-    ensures { result ≡ (if is6508 part then 512 else 0) }
+    ensures { result ≡ (when is6508 part then 512 else 0) }
 {
     if part == 8 { 512 } else { 0 }
 }

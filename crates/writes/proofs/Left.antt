@@ -11,7 +11,7 @@ use lib.Seq.{sets}
 use Rattle.rules.specs.declared.Bus.{Bus}
 use Rattle.rules.specs.declared.State.{State}
 use Rattle.rules.specs.declared.Purpose.{Purpose}
-use Rattle.rules.specs.Basics.{if◌then◌else◌}
+use Rattle.rules.specs.Basics.{when◌then◌else◌}
 use Rattle.rules.specs.Cycles.{Bank}
 use Rattle.rules.specs.Bus.{World, world, images, first, second, kept, is_protected, stored, bytes_of}
 use Rattle.rules.specs.Record.{record_of}
@@ -51,7 +51,7 @@ store_register {κ} {w} {u} i p v q h some =
     (low_kept u i p v h)
   where
     low_kept : (u : Bus) (i : List ℕ) (p v : ℕ) → p < 2 →
-        kept images (world u i) (if eqb p 0 then first else second) v ≡ world (registered u p v) i
+        kept images (world u i) (when eqb p 0 then first else second) v ≡ world (registered u p v) i
     low_kept u i zero v h = refl
     low_kept u i (suc zero) v h = refl
     low_kept u i (suc (suc p)) v h = absurd (omega arith)
