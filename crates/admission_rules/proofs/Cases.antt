@@ -70,7 +70,7 @@ wraps =
     judged (page 1 0x4C from 0xFF00 holds (0x4C ∷ 0x00 ∷ 0xFF ∷ []) from 0xFF4C holds (0x40 ∷ [])) 1
     (mark 0x00 1 0 0 ++ mark 0x4C 3 0 0 ++ mark 0xFE 1 0 0)
 
-abbrev maps : List Bool
+abbrev pub maps : List Bool
 maps =
     -- 1 the document's: admitted; with 60 at FF07: 15, index 4; needs 253 and 0 pass, 254 and 0 don't
     same (paper 0x40 0 ∷ paper 0x60 0 ∷ paper 0x40 253 ∷ paper 0x40 254 ∷ []) (0 ∷ number 15 4 ∷ 0 ∷ 12 ∷ [])
@@ -116,12 +116,12 @@ maps =
     (number 16 3 ∷ number 16 3 ∷ number 16 4 ∷ number 16 4 ∷ [])
     ∷ []
 
-computed_maps : failing 1 maps ≡ []
+pub computed_maps : failing 1 maps ≡ []
 unfolding opened mark_tests vectors_hold rules_at admit
 computed_maps = refl
 
 -- "Admission: 10; 11, first record; 12; then the lowest record, and at it the lowest number.": two rules are broken at once
-abbrev orders : List Bool
+abbrev pub orders : List Bool
 orders =
     -- 1 10 and 11, two records by 11, 11 and 12, 12 and 13
     same (judged (firmware 1) 0 (with 2 2 0 marks) ∷ judged (firmware 1) 1 (with 2 2 0 (with 5 2 0 marks)) ∷ [])
@@ -137,6 +137,6 @@ orders =
     ∷ same (code 13 (0x8D ∷ 0x00 ∷ 0x01 ∷ []) ∷ code 13 (0x68 ∷ []) ∷ []) (number 14 7 ∷ number 15 7 ∷ [])
     ∷ []
 
-computed_orders : failing 1 orders ≡ []
+pub computed_orders : failing 1 orders ≡ []
 unfolding opened mark_tests vectors_hold rules_at admit
 computed_orders = refl

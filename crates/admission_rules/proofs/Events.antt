@@ -25,6 +25,7 @@ use Rattle.admission_rules.specs.Admission.{mark_at, marks_in, tests_of, rules_o
 use Rattle.admission_rules.specs.Safety.{Stacked, Effect, clears, pushes, effect_of, effect_at, Unaltered}
 use Rattle.laws.proofs.Tests.{Hold, and_left, and_right}
 use Rattle.laws.proofs.Entries.{fetched_by}
+use Rattle.admission_rules.proofs.Cases.{computed_maps, computed_orders}
 use Rattle.admission_rules.proofs.Stacks.{lower, Stands, starts, altered, interrupts}
 use Rattle.admission_rules.proofs.Marks.{Admitted}
 use Rattle.admission_rules.proofs.Ends.{End, ends}
@@ -127,6 +128,8 @@ module _ (m₀ : List ℕ) (c : ℕ) (map : List ℕ) (ad : Admitted m₀ c map)
     kept : Kept
     unfolding rules_at
     kept =
+        -- what was computed of the rules comes before what they mean here
+        let computed = (computed_maps, computed_orders) in
         let fits = leb (a + size_of (decode (at m₀ a))) 65536 in
         let its = ad.rules s.i s.goes.within in
         let t = unbroken map s.i (is_protected c a && fits) (Place s.i) (rules_here admitted_here) its in

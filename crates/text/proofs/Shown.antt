@@ -5,13 +5,11 @@ use native.Mathlib.Omega.{arith}
 use mathlib.Core.Path.{◌≡◌, sym, ◌∙◌}
 use mathlib.Core.List.{List, ◌++◌}
 use borrow.Author.Tests.{lt-ltb}
-use lib.Dec.{ltb}
 use lib.ListN.{length, length-append}
 use lib.Seq.{sets}
 use Rattle.rules.specs.declared.StepAnswer.{StepAnswer}
 use Rattle.rules.specs.declared.StepAnswer.TheVariants.{Stepped, Refused}
 use Rattle.rules.specs.Answers.{step_word}
-use Rattle.rules.specs.Step.{front}
 use Rattle.rules.specs.Text.{digits, each, line_of, number_line, count_line, record_line, step_text}
 use Rattle.characters.specs.Shown.{Shows}
 use Rattle.characters.proofs.Laws.{sets_front}

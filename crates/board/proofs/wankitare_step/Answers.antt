@@ -1,7 +1,5 @@
 use Rattle.step.proofs.Finish.{closes_refused}
-use Rattle.checks.proofs.Fits.{fits}
 use mathlib.Core.Path.{sym, ◌∙◌}
-use borrow.Author.Rules.{rules}
 use Rattle.board.proofs.wankitare_step.Goals as goal
 
 pub returns-in-Refused : goal.returns-in-Refused

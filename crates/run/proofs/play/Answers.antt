@@ -1,18 +1,12 @@
-use Prim.Native.Nat.{ℕ, ◌+◌, ◌-◌, ◌*◌, ◌%◌, ◌≤◌, ◌<◌}
+use Prim.Native.Nat.{◌+◌, ◌*◌, ◌<◌}
 use native.Mathlib.Omega.{arith}
-use mathlib.Core.Path.{◌≡◌, refl, sym, ap, ◌∙◌}
-use mathlib.Core.List.{List}
-use lib.ListN.{length, drop}
-use Rattle.rules.specs.Bus.{images}
-use Rattle.rules.specs.Run.{start, play}
+use mathlib.Core.Path.{sym, ap, ◌∙◌}
+use lib.ListN.{length}
 use Rattle.laws.proofs.Lists.{rest_back}
-use Rattle.checks.specs.Checks.{Fits}
 use Rattle.rules.specs.Step.{worded}
-use Rattle.run.specs.Plays.{standing}
 use Rattle.run.specs.Words.{tallied}
 use Rattle.run.proofs.Plays.{lent, told_stepped, told_refused, goes_on, still_fits, still_room, stops, ends}
 use borrow.Author.Rules.{rules}
-use Rattle.run.proofs.play.Invariants.{Running}
 use Rattle.run.proofs.play.Goals as goal
 
 pub returns-then-word-ne0 : goal.returns-then-word-ne0

@@ -1,17 +1,11 @@
-use Prim.Native.Nat.{ℕ, ◌+◌, ◌-◌, ◌*◌, ◌%◌, ◌≤◌, ◌<◌}
-use native.Mathlib.Omega.{arith}
-use mathlib.Core.Path.{◌≡◌, refl, sym, ap, ◌∙◌}
+use Prim.Native.Nat.{ℕ, ◌-◌, ◌*◌, ◌%◌, ◌≤◌}
+use mathlib.Core.Path.{◌≡◌}
 use mathlib.Core.List.{List}
 use lib.ListN.{length, drop}
 use Rattle.rules.specs.Bus.{images}
 use Rattle.rules.specs.Run.{start, play}
-use Rattle.laws.proofs.Lists.{rest_back}
 use Rattle.checks.specs.Checks.{Fits}
-use Rattle.rules.specs.Step.{worded}
 use Rattle.run.specs.Plays.{standing}
-use Rattle.run.specs.Words.{tallied}
-use Rattle.run.proofs.Plays.{lent, told_stepped, told_refused, goes_on, still_fits, still_room, stops, ends}
-use borrow.Author.Rules.{rules}
 use Rattle.run.proofs.play.Given as goal
 
 pub record Running (state₀ image₀ script accesses₀ state image accesses : List ℕ) (i listed : ℕ) : Type 0 where

@@ -3,7 +3,6 @@ use Rattle.run.specs.Words.{tallied}
 use Rattle.rules.specs.Step.{worded}
 use Rattle.checks.proofs.Fits.{fits}
 use mathlib.Core.Path.{sym, ap, ◌∙◌}
-use borrow.Author.Rules.{rules}
 use Rattle.run.proofs.run.Goals as goal
 
 pub returns-then-script-ne0 : goal.returns-then-script-ne0

@@ -1,6 +1,5 @@
 use Rattle.step.proofs.Closing.{long_of}
 use Rattle.rules.specs.Record.{record_of}
-use Rattle.std.proofs.Common.{rules}
 use Rattle.step.proofs.add_cycles.Goals as goal
 
 pub returns : goal.returns

@@ -1,7 +1,7 @@
 use Rattle.step.proofs.Finish.{stepped, not_stepped}
 use Rattle.step.proofs.Closing.{level_back}
 use Rattle.rules.specs.Record.{record_of}
-use Rattle.std.proofs.Common.{◌/◌, rules}
+use Rattle.std.proofs.Common.{◌/◌}
 use Rattle.step.proofs.answer.Goals as goal
 
 pub returns-then-count-eq0 : goal.returns-then-count-eq0

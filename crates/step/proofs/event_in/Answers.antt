@@ -1,6 +1,6 @@
 use Rattle.step.proofs.Closing.{level_of}
 use Rattle.rules.specs.Record.{record_of}
-use Rattle.std.proofs.Common.{ap, ◌∙◌, rules}
+use Rattle.std.proofs.Common.{ap, ◌∙◌}
 use Rattle.state.proofs.Registers.{holds}
 use Rattle.step.proofs.event_in.Goals as goal
 

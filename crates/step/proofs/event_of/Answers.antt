@@ -1,5 +1,5 @@
 use Rattle.rules.specs.Interrupts.{event_of}
-use Rattle.std.proofs.Common.{rules, eq-eqb, ne_eqb}
+use Rattle.std.proofs.Common.{eq-eqb, ne_eqb}
 use Rattle.step.proofs.event_of.Goals as goal
 
 pub returns-then-lines-eq1 : goal.returns-then-lines-eq1

@@ -1,6 +1,6 @@
 use Rattle.step.proofs.Closing.{add_count}
 use Rattle.rules.specs.Interrupts.{cycles_of}
-use Rattle.std.proofs.Common.{refl, arith, rules}
+use Rattle.std.proofs.Common.{refl, arith}
 use Rattle.step.proofs.execute.Goals as goal
 
 pub returns-then-count-eq0 : goal.returns-then-count-eq0

@@ -1,5 +1,4 @@
 use Rattle.step.proofs.Closing.{add_count}
-use Rattle.std.proofs.Common.{rules}
 use Rattle.step.proofs.interrupt.Goals as goal
 
 pub returns : goal.returns

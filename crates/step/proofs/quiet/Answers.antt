@@ -1,9 +1,7 @@
-use denote.Slice.{shr_slice_at}
 use Rattle.rules.specs.Basics.{at}
-use Rattle.step.proofs.Finish.{closes, closes_full, quiet_fits, begins, again, sized}
+use Rattle.step.proofs.Finish.{closes, closes_full, quiet_fits, begins, again}
 use Rattle.rules.specs.Interrupts.{event_of}
 use Rattle.rules.specs.declared.Event.TheVariants.{Execute}
-use Rattle.std.proofs.Common.{refl, arith, rules}
 use Rattle.step.proofs.quiet.Goals as goal
 
 pub returns-then-list-lt56 : goal.returns-then-list-lt56

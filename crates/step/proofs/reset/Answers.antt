@@ -1,6 +1,5 @@
 use Rattle.step.proofs.Closing.{sound_reset, add_count}
 use Rattle.rules.specs.Bus.{reset_bus}
-use Rattle.std.proofs.Common.{rules}
 use Rattle.step.proofs.reset.Goals as goal
 
 pub returns : goal.returns

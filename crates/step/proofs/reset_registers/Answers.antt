@@ -1,6 +1,5 @@
 use Rattle.rules.specs.Record.{record_of}
 use Rattle.rules.specs.Bus.{reset_bus}
-use Rattle.std.proofs.Common.{rules}
 use Rattle.step.proofs.reset_registers.Goals as goal
 
 pub returns : goal.returns

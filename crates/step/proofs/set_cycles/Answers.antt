@@ -1,5 +1,4 @@
 use Rattle.rules.specs.Record.{record_of}
-use Rattle.std.proofs.Common.{rules}
 use Rattle.step.proofs.set_cycles.Goals as goal
 
 pub returns : goal.returns

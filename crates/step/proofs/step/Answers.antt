@@ -1,7 +1,5 @@
-use denote.Slice.{shr_slice_at}
-use Rattle.step.proofs.Finish.{closes, closes_unfit, closes_full, begins, again, sized}
-use borrow.Author.Tests.{not-true, not-false}
-use Rattle.std.proofs.Common.{sym, refl, ◌∙◌, arith, rules}
+use Rattle.step.proofs.Finish.{closes, closes_unfit, closes_full, begins, again}
+use Rattle.std.proofs.Common.{sym, ◌∙◌}
 use Rattle.step.proofs.step.Goals as goal
 
 pub returns-then-not-lines_fit : goal.returns-then-not-lines_fit

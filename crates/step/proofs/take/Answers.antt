@@ -1,4 +1,4 @@
-use Rattle.std.proofs.Common.{refl, arith, rules}
+use Rattle.std.proofs.Common.{refl, arith}
 use Rattle.step.proofs.Closing.{taken}
 use Rattle.rules.specs.Interrupts.{cycles_of}
 use Rattle.step.proofs.take.Goals as goal

@@ -1,4 +1,4 @@
-use Rattle.std.proofs.Common.{◌∙◌, rules}
+use Rattle.std.proofs.Common.{◌∙◌}
 use Rattle.rules.specs.Cycles.{execution}
 use Rattle.state.proofs.Registers.{holds}
 use Rattle.step.proofs.undefined.Goals as goal

@@ -1,5 +1,4 @@
 use Rattle.rules.specs.Text.{access_line}
-use borrow.Author.Rules.{rules}
 use Rattle.text.proofs.access_line.Goals as goal
 
 pub returns : goal.returns

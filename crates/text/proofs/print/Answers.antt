@@ -1,7 +1,6 @@
 use mathlib.Core.Path.{sym, ◌∙◌}
-use borrow.Author.Tests.{not-true, not-false}
 use Rattle.laws.proofs.Lists.{rest_lent, rest_back}
-use Rattle.text.proofs.Printing.{print_short, print_malformed, print_length, print_step, fits, few}
+use Rattle.text.proofs.Printing.{print_short, print_malformed, print_length, print_step, few}
 use borrow.Author.Rules.{rules}
 use Rattle.text.proofs.print.Goals as goal
 

@@ -1,12 +1,7 @@
 use Rattle.rules.specs.Text.{each, line_of}
-use Rattle.characters.proofs.Laws.{each_more}
-use Rattle.text.proofs.Laws.{each_length, line_length}
 use Prim.Native.Nat.{◌-◌, ◌≤◌}
-use native.Mathlib.Numerals.{add-one}
-use native.Mathlib.Omega.{arith}
-use mathlib.Core.Path.{◌≡◌, refl}
-use borrow.Author.Rules.{rules}
-use lib.Seq.{sets, length-sets}
+use mathlib.Core.Path.{◌≡◌}
+use lib.Seq.{sets}
 use Rattle.text.proofs.put_accesses.Given as goal
 
 abbrev pub invariant-loop-k : goal.invariant-loop-k

@@ -2,8 +2,7 @@ use Prim.Native.Nat.{◌%◌}
 use Prim.Native.Char.{code}
 use native.Mathlib.Omega.{arith}
 use Rattle.characters.proofs.Laws.{number_most, puts_shown}
-use Rattle.text.proofs.Shown.{stepped_shown, refused_shown}
-use borrow.Author.Rules.{rules}
+use Rattle.text.proofs.Shown.{refused_shown}
 use Rattle.text.proofs.put_answer.Goals as goal
 
 pub returns : goal.returns

@@ -2,13 +2,11 @@ use lib.ListN.{get_or}
 use Rattle.rules.specs.Text.{each, hex}
 use Rattle.characters.proofs.Laws.{each_more}
 use Rattle.text.proofs.Laws.{each_length}
-use Prim.Native.Nat.{ℕ, ◌-◌, ◌≤◌}
+use Prim.Native.Nat.{ℕ}
 use native.Mathlib.Numerals.{add-one}
 use native.Mathlib.Omega.{arith}
-use mathlib.Core.Path.{◌≡◌, refl}
+use mathlib.Core.Path.{refl}
 use mathlib.Core.List.{List}
-use borrow.Author.Rules.{rules}
-use lib.Seq.{sets, length-sets}
 use Rattle.text.proofs.put_bytes.Goals as goal
 
 pub loop-k-init : goal.loop-k-init

@@ -1,5 +1,4 @@
 use Rattle.text.proofs.Laws.{record_put}
-use borrow.Author.Rules.{rules}
 use Rattle.text.proofs.put_record.Goals as goal
 
 pub returns : goal.returns

@@ -1,6 +1,5 @@
 use native.Mathlib.Omega.{arith}
 use Rattle.text.proofs.Shown.{count_length, step_shown}
-use borrow.Author.Rules.{rules}
 use Rattle.text.proofs.put_step.Goals as goal
 
 pub put_record-requires : goal.put_record-requires
