@@ -129,7 +129,8 @@ module _ (m₀ : List ℕ) (c : ℕ) (map : List ℕ) (ad : Admitted m₀ c map)
     unfolding rules_at
     kept =
         -- what was computed of the rules comes before what they mean here
-        let computed = (computed_maps, computed_orders) in
+        let maps = computed_maps in
+        let orders = computed_orders in
         let fits = leb (a + size_of (decode (at m₀ a))) 65536 in
         let its = ad.rules s.i s.goes.within in
         let t = unbroken map s.i (is_protected c a && fits) (Place s.i) (rules_here admitted_here) its in
