@@ -118,4 +118,5 @@ by_fields n low high =
     let a = n / 32 in
     let b = n / 4 % 8 in
     let x = n / 2 % 2 in
-    when eqb (n % 2) 1 then (when eqb x 1 then Undefined else group_one a b (mode_of (bank_column a b) low high)) else even_group a b x low high
+    when eqb (n % 2) 1 then (when eqb x 1 then Undefined else group_one a b (mode_of (bank_column a b) low high))
+    else even_group a b x low high

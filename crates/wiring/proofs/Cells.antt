@@ -46,7 +46,8 @@ cell_byte κ u p (the6509 e) h =
     let t = above p 2 (omega arith) (rw e at h) in
     rw (e, t.0, t.1, t.2)
 
-low_cell : (p : ℕ) (c : Cell) → p < 2 → (when eqb p 0 then first else when eqb p 1 then second else c) ≡ (when eqb p 0 then first else second)
+low_cell : (p : ℕ) (c : Cell) → p < 2 →
+    (when eqb p 0 then first else when eqb p 1 then second else c) ≡ (when eqb p 0 then first else second)
 low_cell zero c h = refl
 low_cell (suc zero) c h = refl
 low_cell (suc (suc p)) c h = absurd (omega arith)
