@@ -19,7 +19,3 @@ loop-k-preserved c =
       rw (c.put.ensures, c.line_of.ensures, c.loop-k.invariant.1, add-one k)
           (each_more (line_of list) k 0 _ _ (omega (arith, size))),
     )
-
--- ?? need same-length
--- same_length : tie.Need-same-length invariant-loop decreases-loop
--- same_length c = rw c.before.loop.invariant.1 (rw length-sets)

@@ -22,7 +22,3 @@ loop-k-preserved c =
       omega arith,
       rw (c.put.ensures, c.hex.ensures, c.loop-k.invariant.1, add-one) (each_more f k _ _ _ (omega (arith, size))),
     )
-
--- ?? need same-length
--- same_length : tie.Need-same-length invariant-loop decreases-loop
--- same_length c = rw c.before.loop.invariant.1 (rw length-sets)
