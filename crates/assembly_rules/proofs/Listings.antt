@@ -17,6 +17,7 @@ use Rattle.assembly_rules.specs.declared.Shape.{Shape}
 use Rattle.assembly_rules.specs.declared.Shape.TheVariants as shape
 use Rattle.assembly_rules.specs.Mnemonics.{shape_of}
 use Rattle.assembly_rules.specs.Listing.{operand_text, Listed, line_at, listed, text_of}
+use Rattle.assembly_rules.proofs.Cases.{texts, faults, listings}
 
 -- how long an operand is goes by its shape alone
 pub operand_width : (a low high : ℕ) (s : Shape) → length (operand_text a low high s) ≡ length (operand_text 0 0 0 s)
@@ -60,6 +61,10 @@ sizes (late f) = omega arith
 pub line_most : (a : ℕ) (bytes : List ℕ) → length (line_at a bytes).text ≤ 11
 unfolding line_at
 line_most a bytes =
+    -- what was computed comes first
+    let texts_hold = texts in
+    let faults_hold = faults in
+    let listings_hold = listings in
     let e = decode (at bytes 0) in
     let low = at bytes 1 in
     let high = at bytes 2 in

@@ -12,6 +12,7 @@ use Rattle.assembly_rules.specs.declared.Line.{Line}
 use Rattle.assembly_rules.specs.declared.Line.TheVariants.{Nothing, One, Two, Three, Wrong}
 use Rattle.assembly_rules.specs.Lines.{line_of}
 use Rattle.assembly_rules.specs.Assembly.{lines_of, Made, made, wrong, fitted, judged, lines, assembled}
+use Rattle.assembly_rules.proofs.Cases.{texts, faults, listings}
 
 abbrev Within : ℕ → Made → Type 0
 Within k m = (bytes : List ℕ) → m ≡ made bytes → length bytes ≤ k
@@ -43,4 +44,9 @@ module _ (start room : ℕ) where
       omega (arith, more)
 
   pub three_a_line : (text bytes : List ℕ) → assembled start room text ≡ made bytes → length bytes ≤ 3 * length (lines_of text)
-  three_a_line text bytes e = omega (arith, lines_within (lines_of text) _ [] bytes e)
+  three_a_line text bytes e =
+      -- what was computed comes first
+      let texts_hold = texts in
+      let faults_hold = faults in
+      let listings_hold = listings in
+      omega (arith, lines_within (lines_of text) _ [] bytes e)

@@ -11,6 +11,7 @@ use Rattle.laws.proofs.Tests.{and_left, and_right, all_at}
 use Rattle.assembly_rules.specs.Characters.{place, is_space}
 use Rattle.assembly_rules.specs.Lines.{content, too_deep, written, line_of}
 use Rattle.assembly_rules.specs.Assembly.{onto, lines_of}
+use Rattle.assembly_rules.proofs.Cases.{texts, faults, listings}
 
 pub record IsPlain (c : ℕ) : Type 0 where
   pub lf : eqb c 10 ≡ false
@@ -93,6 +94,10 @@ three a b c h = search (and_left, and_right) depth 6
 
 pub digit_known : (n : ℕ) → n < 36 → Digit (digit n) n
 digit_known n h =
+    -- what was computed comes first
+    let texts_hold = texts in
+    let faults_hold = faults in
+    let listings_hold = listings in
     let c = digit n in
     let k = three (eqb (place c) n) (not (is_space c)) (is_plain c) (all_at 36 known all_known n h) in
     record { placed = eqb-true _ _ k.0; solid = negated _ k.1; plain = tested c k.2 }
