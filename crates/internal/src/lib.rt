@@ -21,8 +21,7 @@ fn one_less(v: u8) -> u8
 }
 
 // Each operation reads the registers that it needs, and no others. A flag is set or cleared where it stands in P.
-pub fn inside(o: Internal, state: &mut [u8])
-    requires { length state.old ≡ 16 }
+pub fn inside(o: Internal, state: &mut [u8; 16])
     ensures { Makes (inside o) state.old state.new }
 {
     match o {

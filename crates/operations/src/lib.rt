@@ -34,8 +34,8 @@ fn bit_test(a: u8, m: u8, f: Flags) -> Flags
 }
 
 // The register of this place compared with a byte: of all registers only the flags change.
-fn compared(state: &mut [u8], register: usize, v: u8)
-    requires { (length state.old ≡ 16) × (register < 16) }
+fn compared(state: &mut [u8; 16], register: usize, v: u8)
+    requires { register < 16 }
     ensures { Makes (λ c. with_p (compare (at state.old register) v c.p) c) state.old state.new }
 {
     let r = state[register];
@@ -44,8 +44,7 @@ fn compared(state: &mut [u8], register: usize, v: u8)
 }
 
 // Each operation reads the registers that it needs, and no others.
-pub fn used(o: Reading, v: u8, state: &mut [u8])
-    requires { length state.old ≡ 16 }
+pub fn used(o: Reading, v: u8, state: &mut [u8; 16])
     ensures { Makes (used o v) state.old state.new }
 {
     match o {

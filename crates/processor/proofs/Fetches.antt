@@ -21,7 +21,7 @@ use Rattle.laws.proofs.Entries.{fetched_by}
 use Rattle.rules.proofs.Table.{everywhere}
 use Rattle.laws.specs.Goes.{Goes, Does}
 use Rattle.laws.proofs.Goes.{ended, then_do, then_call}
-use Rattle.wiring.specs.declared.Wiring.{Wiring}
+use Rattle.wiring.specs.declared.bank.Wiring.{Wiring}
 use Rattle.wiring.specs.Wiring.{Stands}
 use Rattle.processor.specs.Begun.{short}
 use Rattle.laws.specs.Sizes.{mode_size, size_in}

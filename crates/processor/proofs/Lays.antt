@@ -7,7 +7,7 @@ use Rattle.rules.specs.declared.State.{State}
 use Rattle.rules.specs.declared.Instruction.{Instruction}
 use Rattle.rules.specs.declared.Instruction.TheVariants.{Store, Change}
 use Rattle.laws.proofs.Lengths.{place_most}
-use Rattle.wiring.specs.declared.Wiring.{Wiring}
+use Rattle.wiring.specs.declared.bank.Wiring.{Wiring}
 use Rattle.processor.specs.Begun.{short}
 use Rattle.processor.specs.Laid.{Lays, stores, changes}
 use Rattle.processor.specs.Rest.{high_in, high_of, Fetched}

@@ -18,7 +18,7 @@ use Rattle.rules.specs.Addressing.{get, pointer, zero_indexed, indexed, load_ind
 use Rattle.rules.specs.Operations.{with_pc, perform}
 use Rattle.laws.specs.Goes.{Goes, Does}
 use Rattle.laws.specs.States.{moved}
-use Rattle.wiring.specs.declared.Wiring.{Wiring}
+use Rattle.wiring.specs.declared.bank.Wiring.{Wiring}
 use Rattle.wiring.specs.Wiring.{Stands}
 use Rattle.laws.specs.Sizes.{size_in}
 

@@ -8,7 +8,7 @@ ghost use Rattle.rules.specs.declared.Mode.TheVariants.{IndirectX};
 ghost use Rattle.rules.specs.Cycles.{Bank, execution};
 ghost use Rattle.rules.specs.Basics.{address, sum16};
 ghost use Rattle.rules.specs.Addressing.{bank_of, get, old_page, pointer, zero_indexed, first_for, load_indexed, indexed, load, place};
-ghost use Rattle.wiring.specs.Wiring.{Stands, Ready};
+ghost use Rattle.wiring.specs.Wiring.{Stands};
 ghost use Rattle.laws.specs.Goes.{Goes};
 ghost use Rattle.rules.specs.Record.{record_of};
 ghost use Rattle.laws.specs.Sizes.{mode_size};
@@ -34,10 +34,9 @@ pub(crate) struct Spot {
 }
 
 // "Only the last one or two accesses of B1 and 91 (after the pointer) use the indirect bank."
-pub(crate) fn wiring_of(m: Mode, state: &[u8], w: Wiring) -> Wiring
-    requires { ((length state.now ≡ 16) × (w.base + 65536 ≤ w.size)) × (w.size % 65536 ≡ 0) }
-    ensures { ((result.base + 65536 ≤ w.size) × (result.size ≡ w.size))
-        × ((s : State) → Stands execution s state.now w → Stands (bank_of m) s state.now result) }
+pub(crate) fn wiring_of(m: Mode, state: &[u8; 16], w: Wiring) -> Wiring
+    ensures size { result.size ≡ w.size }
+    ensures stands { (s : State) → Stands execution s state.now w → Stands (bank_of m) s state.now result }
 {
     if let Mode::IndirectBankY(_) = m {
         return wiring::indirect(state, w);
@@ -46,16 +45,14 @@ pub(crate) fn wiring_of(m: Mode, state: &[u8], w: Wiring) -> Wiring
 }
 
 // PC behind the instruction's n bytes.
-pub(crate) fn past(n: u16, pc: u16, state: &mut [u8])
-    requires { length state.old ≡ 16 }
+pub(crate) fn past(n: u16, pc: u16, state: &mut [u8; 16])
     ensures { (s : State) → state.old ≡ record_of s → pc ≡ s.cpu.pc → state.new ≡ record_of (past_in n s) }
 {
     state::set_pc(state, std::num::wrapping_add_u16(pc, n));
 }
 
 // The high byte of an address is listed, and PC is behind it.
-fn third(high: u8, pc: u16, state: &mut [u8], w: Wiring, list: &mut [u8])
-    requires { (length state.old ≡ 16) × (56 ≤ length list.old) }
+fn third(high: u8, pc: u16, state: &mut [u8; 16], w: Wiring, list: &mut [u8; 56])
     ensures { (s : State) (i : List ℕ) → Fetched (λ v. high) s state.old i w pc →
         Opens 3 s i list.old state.new list.new }
 {
@@ -65,8 +62,8 @@ fn third(high: u8, pc: u16, state: &mut [u8], w: Wiring, list: &mut [u8])
 }
 
 // "pointer low, high (both in page zero)"
-fn pointer(state: &[u8], w: Wiring, image: &[u8], list: &mut [u8], k: usize, z: u8) -> u16
-    requires { (k < 6) × Ready w (length state.now) (length image.now) (length list.old) }
+fn pointer(state: &[u8; 16], w: Wiring, image: &[u8], list: &mut [u8; 56], k: usize, z: u8) -> u16
+    requires { (k < 6) × (w.size ≤ length image.now) }
     ensures { (s : State) → Stands execution s state.now w →
         Goes (pointer z) k s.bus image.now list.old result (k + 2) s.bus
         image.now list.new }
@@ -76,8 +73,8 @@ fn pointer(state: &[u8], w: Wiring, image: &[u8], list: &mut [u8], k: usize, z: 
 }
 
 // "read at the old page with the summed low byte; then the data at the full sum"
-fn indexed(state: &[u8], w: Wiring, image: &[u8], list: &mut [u8], k: usize, a: u16, i: u8) -> u16
-    requires { (k < 7) × Ready w (length state.now) (length image.now) (length list.old) }
+fn indexed(state: &[u8; 16], w: Wiring, image: &[u8], list: &mut [u8; 56], k: usize, a: u16, i: u8) -> u16
+    requires { (k < 7) × (w.size ≤ length image.now) }
     ensures { (s : State) (κ : Bank) → Stands κ s state.now w →
         Goes (indexed κ a i) k s.bus image.now list.old result (k + 1) s.bus image.now
         list.new }
@@ -106,15 +103,15 @@ fn first_for(near: u16, sum: u16) -> Purpose
 
 // "A load stops at that first read if no page was crossed"
 fn load_indexed(
-    state: &[u8],
+    state: &[u8; 16],
     w: Wiring,
     image: &[u8],
-    list: &mut [u8],
+    list: &mut [u8; 56],
     k: usize,
     a: u16,
     i: u8,
 ) -> Loaded
-    requires { (k < 6) × Ready w (length state.now) (length image.now) (length list.old) }
+    requires { (k < 6) × (w.size ≤ length image.now) }
     ensures { (result.count ≤ k + 2) × ((s : State) (κ : Bank) → Stands κ s state.now w →
         Goes (load_indexed κ a i) k s.bus image.now list.old result.value result.count s.bus image.now
         list.new) }
@@ -140,11 +137,10 @@ pub(crate) fn absolute(
     low: u8,
     high: u8,
     pc: u16,
-    state: &mut [u8],
+    state: &mut [u8; 16],
     w: Wiring,
-    list: &mut [u8],
+    list: &mut [u8; 56],
 ) -> u16
-    requires { (length state.old ≡ 16) × (56 ≤ length list.old) }
     ensures { (result ≡ address low high) × ((s : State) (i : List ℕ) → Fetched (λ v. high) s state.old i w pc →
         Opens 3 s i list.old state.new list.new) }
 {
@@ -157,12 +153,12 @@ fn zero_indexed(
     z: u8,
     i: u8,
     pc: u16,
-    state: &mut [u8],
+    state: &mut [u8; 16],
     w: Wiring,
     image: &[u8],
-    list: &mut [u8],
+    list: &mut [u8; 56],
 ) -> u8
-    requires { Ready w (length state.old) (length image.now) (length list.old) }
+    requires { w.size ≤ length image.now }
     ensures { (s : State) → Stands execution s state.old w → pc ≡ s.cpu.pc →
         Reaches 2 (zero_indexed z i) s image.now list.old result 3 state.new list.new }
 {
@@ -177,12 +173,12 @@ fn at_absolute_indexed(
     high: u8,
     i: u8,
     pc: u16,
-    state: &mut [u8],
+    state: &mut [u8; 16],
     w: Wiring,
     image: &[u8],
-    list: &mut [u8],
+    list: &mut [u8; 56],
 ) -> u16
-    requires { Ready w (length state.old) (length image.now) (length list.old) }
+    requires { w.size ≤ length image.now }
     ensures { (s : State) → Fetched (λ v. high) s state.old image.now w pc →
         Reaches 3 (indexed execution (address low high) i) s image.now list.old result 4
         state.new list.new }
@@ -192,8 +188,8 @@ fn at_absolute_indexed(
 }
 
 // By (z,X).
-fn at_indirect_x(z: u8, pc: u16, state: &mut [u8], w: Wiring, image: &[u8], list: &mut [u8]) -> u16
-    requires { Ready w (length state.old) (length image.now) (length list.old) }
+fn at_indirect_x(z: u8, pc: u16, state: &mut [u8; 16], w: Wiring, image: &[u8], list: &mut [u8; 56]) -> u16
+    requires { w.size ≤ length image.now }
     ensures { (s : State) → Stands execution s state.old w → pc ≡ s.cpu.pc →
         Reaches 2 (place s.cpu (IndirectX z)) s image.now list.old result 5
         state.new list.new }
@@ -207,14 +203,13 @@ fn at_indirect_x(z: u8, pc: u16, state: &mut [u8], w: Wiring, image: &[u8], list
 fn at_indirect_y(
     z: u8,
     pc: u16,
-    state: &mut [u8],
+    state: &mut [u8; 16],
     w: Wiring,
     there: Wiring,
     image: &[u8],
-    list: &mut [u8],
+    list: &mut [u8; 56],
 ) -> u16
-    requires { Ready w (length state.old) (length image.now) (length list.old)
-        × Ready there (length state.old) (length image.now) (length list.old) }
+    requires { (w.size ≤ length image.now) × (there.size ≤ length image.now) }
     ensures { (s : State) (κ : Bank) → Stands execution s state.old w → pc ≡ s.cpu.pc →
         Stands κ s state.old there →
         Reaches 2 (place_through κ z s.cpu.y) s image.now list.old result 5
@@ -226,8 +221,8 @@ fn at_indirect_y(
 }
 
 // What a load finds by z.
-fn from_zero(z: u8, pc: u16, state: &mut [u8], w: Wiring, image: &[u8], list: &mut [u8]) -> Loaded
-    requires { Ready w (length state.old) (length image.now) (length list.old) }
+fn from_zero(z: u8, pc: u16, state: &mut [u8; 16], w: Wiring, image: &[u8], list: &mut [u8; 56]) -> Loaded
+    requires { w.size ≤ length image.now }
     ensures { (result.count ≤ 7) × ((s : State) → Stands execution s state.old w → pc ≡ s.cpu.pc →
         Reaches 2 (get Data z) s image.now list.old result.value result.count
         state.new list.new) }
@@ -244,12 +239,12 @@ fn from_zero_indexed(
     z: u8,
     i: u8,
     pc: u16,
-    state: &mut [u8],
+    state: &mut [u8; 16],
     w: Wiring,
     image: &[u8],
-    list: &mut [u8],
+    list: &mut [u8; 56],
 ) -> Loaded
-    requires { Ready w (length state.old) (length image.now) (length list.old) }
+    requires { w.size ≤ length image.now }
     ensures { (result.count ≤ 7) × ((s : State) → Stands execution s state.old w → pc ≡ s.cpu.pc →
         Reaches 2 (load_zero_indexed z i) s image.now list.old result.value result.count
         state.new list.new) }
@@ -266,12 +261,12 @@ fn from_absolute(
     low: u8,
     high: u8,
     pc: u16,
-    state: &mut [u8],
+    state: &mut [u8; 16],
     w: Wiring,
     image: &[u8],
-    list: &mut [u8],
+    list: &mut [u8; 56],
 ) -> Loaded
-    requires { Ready w (length state.old) (length image.now) (length list.old) }
+    requires { w.size ≤ length image.now }
     ensures { (result.count ≤ 7) × ((s : State) → Fetched (λ v. high) s state.old image.now w pc →
         Reaches 3 (get Data (address low high)) s image.now list.old result.value result.count
         state.new list.new) }
@@ -287,12 +282,12 @@ fn from_absolute(
 fn from_indirect_x(
     z: u8,
     pc: u16,
-    state: &mut [u8],
+    state: &mut [u8; 16],
     w: Wiring,
     image: &[u8],
-    list: &mut [u8],
+    list: &mut [u8; 56],
 ) -> Loaded
-    requires { Ready w (length state.old) (length image.now) (length list.old) }
+    requires { w.size ≤ length image.now }
     ensures { (result.count ≤ 7) × ((s : State) → Stands execution s state.old w → pc ≡ s.cpu.pc →
         Reaches 2 (load s.cpu (IndirectX z)) s image.now list.old result.value result.count
         state.new list.new) }
@@ -310,14 +305,13 @@ fn from_indirect_x(
 fn from_indirect_y(
     z: u8,
     pc: u16,
-    state: &mut [u8],
+    state: &mut [u8; 16],
     w: Wiring,
     there: Wiring,
     image: &[u8],
-    list: &mut [u8],
+    list: &mut [u8; 56],
 ) -> Loaded
-    requires { Ready w (length state.old) (length image.now) (length list.old)
-        × Ready there (length state.old) (length image.now) (length list.old) }
+    requires { (w.size ≤ length image.now) × (there.size ≤ length image.now) }
     ensures { (result.count ≤ 7) × ((s : State) (κ : Bank) → Stands execution s state.old w → pc ≡ s.cpu.pc →
         Stands κ s state.old there →
         Reaches 2 (load_through κ z s.cpu.y) s image.now list.old result.value result.count
@@ -332,12 +326,12 @@ fn from_indirect_y(
 pub(crate) fn load(
     m: Mode,
     pc: u16,
-    state: &mut [u8],
+    state: &mut [u8; 16],
     w: Wiring,
     image: &[u8],
-    list: &mut [u8],
+    list: &mut [u8; 56],
 ) -> Loaded
-    requires { Ready w (length state.old) (length image.now) (length list.old) }
+    requires { w.size ≤ length image.now }
     ensures { (result.count ≤ 7) × ((s : State) → Fetched (high_in m) s state.old image.now w pc →
         Reaches (mode_size m) (load (past (mode_size m) s.cpu) m) s image.now list.old result.value result.count
         state.new list.new) }
@@ -371,12 +365,12 @@ pub(crate) fn load(
 pub(crate) fn place(
     m: Mode,
     pc: u16,
-    state: &mut [u8],
+    state: &mut [u8; 16],
     w: Wiring,
     image: &[u8],
-    list: &mut [u8],
+    list: &mut [u8; 56],
 ) -> Spot
-    requires { Ready w (length state.old) (length image.now) (length list.old) }
+    requires { w.size ≤ length image.now }
     ensures { ((result.count ≤ 5) × (result.count ≤ mode_size m + place_most m))
         × ((s : State) → Fetched (high_in m) s state.old image.now w pc →
         Reaches (mode_size m) (place (past (mode_size m) s.cpu) m) s image.now list.old result.address result.count

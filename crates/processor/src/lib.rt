@@ -12,7 +12,7 @@ ghost use Rattle.rules.specs.Bus.{world, images, look};
 ghost use Rattle.rules.specs.Record.{record_of};
 ghost use Rattle.rules.specs.Operations.{register_of, taken, perform};
 ghost use Rattle.rules.specs.Flags.{flags_of};
-ghost use Rattle.wiring.specs.Wiring.{Wired, Stands, Ready};
+ghost use Rattle.wiring.specs.Wiring.{Wired, Stands};
 ghost use Rattle.laws.specs.Goes.{Goes, Does};
 ghost use Rattle.laws.specs.Sizes.{size_in};
 ghost use Rattle.processor.specs.Begun.{short};
@@ -28,8 +28,7 @@ use rules::{
 };
 use wiring::Wiring;
 
-fn register_of(o: Storing, state: &[u8]) -> u8
-    requires { length state.now ≡ 16 }
+fn register_of(o: Storing, state: &[u8; 16]) -> u8
     ensures { (s : State) → state.now ≡ record_of s → result ≡ register_of o s.cpu }
 {
     match o {
@@ -43,12 +42,12 @@ fn store(
     o: Storing,
     m: Mode,
     at: Spot,
-    state: &mut [u8],
+    state: &mut [u8; 16],
     w: Wiring,
     image: &mut [u8],
-    list: &mut [u8],
+    list: &mut [u8; 56],
 )
-    requires { (at.count < 7) × Ready w (length state.old) (length image.old) (length list.old) }
+    requires { (at.count < 7) × (w.size ≤ length image.old) }
     ensures { (s : State) → Stands execution s state.old w →
         Does (stored_at o m at.address s.cpu) at.count s image.old list.old (at.count + 1)
         state.new image.new list.new }
@@ -73,12 +72,12 @@ fn rewrite(
     k: usize,
     a: u16,
     v: u8,
-    state: &mut [u8],
+    state: &mut [u8; 16],
     w: Wiring,
     image: &mut [u8],
-    list: &mut [u8],
+    list: &mut [u8; 56],
 )
-    requires { (k < 6) × Ready w (length state.old) (length image.old) (length list.old) }
+    requires { (k < 6) × (w.size ≤ length image.old) }
     ensures { (s : State) → Stands execution s state.old w →
         v ≡ look images (world s.bus image.old) execution a →
         Does (rewritten o a v s.cpu) k s image.old list.old (k + 2) state.new image.new
@@ -92,8 +91,8 @@ fn rewrite(
     state::set_flags(state, after);
 }
 
-fn change(o: Changing, at: Spot, state: &mut [u8], w: Wiring, image: &mut [u8], list: &mut [u8])
-    requires { (at.count < 5) × Ready w (length state.old) (length image.old) (length list.old) }
+fn change(o: Changing, at: Spot, state: &mut [u8; 16], w: Wiring, image: &mut [u8], list: &mut [u8; 56])
+    requires { (at.count < 5) × (w.size ≤ length image.old) }
     ensures { (s : State) → Stands execution s state.old w →
         Does (changed_at o at.address s.cpu) at.count s image.old list.old (at.count + 3)
         state.new image.new list.new }
@@ -110,12 +109,12 @@ fn lay(
     i: Instruction,
     m: Mode,
     pc: u16,
-    state: &mut [u8],
+    state: &mut [u8; 16],
     w: Wiring,
     image: &mut [u8],
-    list: &mut [u8],
+    list: &mut [u8; 56],
 ) -> usize
-    requires { (Lays i m × (short i ≡ true)) × Ready w (length state.old) (length image.old) (length list.old) }
+    requires { (Lays i m × (short i ≡ true)) × (w.size ≤ length image.old) }
     ensures { (result ≤ 7) × ((s : State) → Fetched (high_in m) s state.old image.old w pc →
         Does (rest i s.cpu) 2 s image.old list.old result state.new
         image.new list.new) }
@@ -181,12 +180,12 @@ fn branch(
     t: Condition,
     o: u8,
     pc: u16,
-    state: &mut [u8],
+    state: &mut [u8; 16],
     w: Wiring,
     image: &[u8],
-    list: &mut [u8],
+    list: &mut [u8; 56],
 ) -> usize
-    requires { Ready w (length state.old) (length image.now) (length list.old) }
+    requires { w.size ≤ length image.now }
     ensures { (result ≤ 7) × ((s : State) → Stands execution s state.old w → pc ≡ s.cpu.pc →
         Does (perform (Branch t o) (past 2 s.cpu)) 2 s image.now list.old result state.new
         image.now list.new) }
@@ -219,12 +218,12 @@ fn read_into(
     o: Reading,
     m: Mode,
     pc: u16,
-    state: &mut [u8],
+    state: &mut [u8; 16],
     w: Wiring,
     image: &[u8],
-    list: &mut [u8],
+    list: &mut [u8; 56],
 ) -> usize
-    requires { Ready w (length state.old) (length image.now) (length list.old) }
+    requires { w.size ≤ length image.now }
     ensures { (result ≤ 7) × ((s : State) → Fetched (high_in m) s state.old image.now w pc →
         Does (rest (Read o m) s.cpu) 2 s image.now list.old result state.new image.now
         list.new) }
@@ -235,8 +234,7 @@ fn read_into(
 }
 
 // ASL, ROL, LSR, ROR of A.
-fn accumulated(o: Changing, pc: u16, state: &mut [u8])
-    requires { length state.old ≡ 16 }
+fn accumulated(o: Changing, pc: u16, state: &mut [u8; 16])
     ensures { Alone (Accumulator o) state.old pc state.new }
 {
     addressing::past(1, pc, state);
@@ -245,16 +243,14 @@ fn accumulated(o: Changing, pc: u16, state: &mut [u8])
     state::to_result(state, arithmetic::changed(o, a, f))
 }
 
-fn implied(o: Internal, pc: u16, state: &mut [u8])
-    requires { length state.old ≡ 16 }
+fn implied(o: Internal, pc: u16, state: &mut [u8; 16])
     ensures { Alone (Implied o) state.old pc state.new }
 {
     addressing::past(1, pc, state);
     internal::inside(o, state)
 }
 
-fn txs(pc: u16, state: &mut [u8])
-    requires { length state.old ≡ 16 }
+fn txs(pc: u16, state: &mut [u8; 16])
     ensures { Alone Txs state.old pc state.new }
 {
     addressing::past(1, pc, state);
@@ -262,8 +258,7 @@ fn txs(pc: u16, state: &mut [u8])
     state::set_s(state, x)
 }
 
-fn cli(pc: u16, state: &mut [u8])
-    requires { length state.old ≡ 16 }
+fn cli(pc: u16, state: &mut [u8; 16])
     ensures { Alone Cli state.old pc state.new }
 {
     addressing::past(1, pc, state);
@@ -274,12 +269,12 @@ fn cli(pc: u16, state: &mut [u8])
 fn at_stack(
     o: Stacking,
     pc: u16,
-    state: &mut [u8],
+    state: &mut [u8; 16],
     w: Wiring,
     image: &mut [u8],
-    list: &mut [u8],
+    list: &mut [u8; 56],
 ) -> usize
-    requires { Ready w (length state.old) (length image.old) (length list.old) }
+    requires { w.size ≤ length image.old }
     ensures { (result ≤ 7) × ((s : State) → Stands execution s state.old w → pc ≡ s.cpu.pc →
         Does (rest (AtStack o) s.cpu) 2 s image.old list.old result state.new image.new
         list.new) }
@@ -288,8 +283,7 @@ fn at_stack(
     stacking::at_stack(o, state, w, image, list)
 }
 
-fn jump(low: u8, high: u8, pc: u16, state: &mut [u8], w: Wiring, list: &mut [u8])
-    requires { (length state.old ≡ 16) × (56 ≤ length list.old) }
+fn jump(low: u8, high: u8, pc: u16, state: &mut [u8; 16], w: Wiring, list: &mut [u8; 56])
     ensures { (s : State) (i : List ℕ) → Fetched (λ v. high) s state.old i w pc →
         Does (rest (Jump low high) s.cpu) 2 s i list.old 3 state.new i list.new }
 {
@@ -301,12 +295,12 @@ fn jump_indirect(
     low: u8,
     high: u8,
     pc: u16,
-    state: &mut [u8],
+    state: &mut [u8; 16],
     w: Wiring,
     image: &[u8],
-    list: &mut [u8],
+    list: &mut [u8; 56],
 )
-    requires { Ready w (length state.old) (length image.now) (length list.old) }
+    requires { w.size ≤ length image.now }
     ensures { (s : State) → Fetched (λ v. high) s state.old image.now w pc →
         Does (rest (JumpIndirect low high) s.cpu) 2 s image.now list.old 5 state.new
         image.now list.new }
@@ -320,12 +314,12 @@ fn jump_indirect(
 fn perform(
     i: Instruction,
     pc: u16,
-    state: &mut [u8],
+    state: &mut [u8; 16],
     w: Wiring,
     image: &mut [u8],
-    list: &mut [u8],
+    list: &mut [u8; 56],
 ) -> usize
-    requires { (short i ≡ true) × Ready w (length state.old) (length image.old) (length list.old) }
+    requires { (short i ≡ true) × (w.size ≤ length image.old) }
     ensures { (result ≤ 7) × ((s : State) → Fetched (high_of i) s state.old image.old w pc →
         Does (rest i s.cpu) 2 s image.old list.old result state.new
         image.new list.new) }
@@ -384,8 +378,8 @@ struct Bytes {
 }
 
 // They are looked at, unlisted.
-fn fetch(state: &[u8], w: Wiring, image: &[u8], pc: u16) -> Bytes
-    requires { Ready w (length state.now) (length image.now) 56 }
+fn fetch(state: &[u8; 16], w: Wiring, image: &[u8], pc: u16) -> Bytes
+    requires { w.size ≤ length image.now }
     ensures { (s : State) → Stands execution s state.now w → pc ≡ s.cpu.pc → Found result s image.now }
 {
     if w.plain <= pc {
@@ -430,8 +424,7 @@ fn second_for(i: Instruction) -> Purpose
 }
 
 // The opcode and the byte behind it are listed.
-fn begin(i: Instruction, f: Bytes, pc: u16, w: Wiring, list: &mut [u8])
-    requires { 56 ≤ length list.old }
+fn begin(i: Instruction, f: Bytes, pc: u16, w: Wiring, list: &mut [u8; 56])
     ensures { (s : State) (m : List ℕ) → Wired execution w s.bus → pc ≡ s.cpu.pc → Found f s m →
         Goes (begun (size_in 2 i) s.cpu.pc) 0 s.bus m list.old f.low 2 s.bus m list.new }
 {
@@ -441,8 +434,8 @@ fn begin(i: Instruction, f: Bytes, pc: u16, w: Wiring, list: &mut [u8])
 }
 
 // The instruction at PC. Answers the accesses made, or 0 where the opcode is undefined: then nothing has changed.
-pub fn instruction(pins: u8, state: &mut [u8], image: &mut [u8], list: &mut [u8]) -> usize
-    requires { ((length state.old ≡ 16) × (56 ≤ length list.old))
+pub fn instruction(pins: u8, state: &mut [u8; 16], image: &mut [u8], list: &mut [u8; 56]) -> usize
+    requires { ((56 ≤ length list.old))
         × ((65536 ≤ length image.old) × (length image.old % 65536 ≡ 0)) }
     ensures { (result ≤ 7) × ((s : State) → Begins s state.old pins (length image.old) →
         Executed s image.old list.old result state.new image.new list.new) }

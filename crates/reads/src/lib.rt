@@ -9,7 +9,7 @@ ghost use Rattle.rules.specs.declared.State.{State};
 ghost use Rattle.rules.specs.Cycles.{Bank, execution, done, read};
 ghost use Rattle.rules.specs.Bus.{world, images, look};
 ghost use Rattle.rules.specs.Record.{record_of};
-ghost use Rattle.wiring.specs.Wiring.{Stands, Ready};
+ghost use Rattle.wiring.specs.Wiring.{Stands};
 ghost use Rattle.laws.specs.Goes.{Goes};
 ghost use Rattle.reads.specs.Held.{low_held};
 ghost use Rattle.rules.specs.Addressing.{word_at};
@@ -25,8 +25,8 @@ fn port(direction: u8, output: u8, pins: u8) -> u8
 }
 
 // What an address below `plain` holds: a register, the port, or the 6508's first page.
-fn low_held(state: &[u8], pins: u8, image: &[u8], a: u16) -> u8
-    requires { (length state.now ≡ 16) × (65536 ≤ length image.now) }
+fn low_held(state: &[u8; 16], pins: u8, image: &[u8], a: u16) -> u8
+    requires { 65536 ≤ length image.now }
     ensures { (s : State) → state.now ≡ record_of s → pins ≡ s.bus.pins → result ≡ low_held s.bus image.now a }
 {
     if 1 < a {
@@ -42,8 +42,8 @@ fn low_held(state: &[u8], pins: u8, image: &[u8], a: u16) -> u8
 }
 
 // What a read would find, unlisted.
-pub fn look(state: &[u8], w: Wiring, image: &[u8], a: u16) -> u8
-    requires { Ready w (length state.now) (length image.now) 56 }
+pub fn look(state: &[u8; 16], w: Wiring, image: &[u8], a: u16) -> u8
+    requires { w.size ≤ length image.now }
     ensures { (s : State) (κ : Bank) → Stands κ s state.now w →
         result ≡ look images (world s.bus image.now) κ a }
 {
@@ -56,14 +56,14 @@ pub fn look(state: &[u8], w: Wiring, image: &[u8], a: u16) -> u8
 // One read cycle, the step's k-th.
 pub fn read(
     purpose: Purpose,
-    state: &[u8],
+    state: &[u8; 16],
     w: Wiring,
     image: &[u8],
-    list: &mut [u8],
+    list: &mut [u8; 56],
     k: usize,
     a: u16,
 ) -> u8
-    requires { (k < 7) × Ready w (length state.now) (length image.now) (length list.old) }
+    requires { (k < 7) × (w.size ≤ length image.now) }
     ensures { (s : State) (κ : Bank) → Stands κ s state.now w →
         Goes (read purpose κ a done) k s.bus image.now list.old result (k + 1) s.bus image.now
         list.new }
@@ -76,15 +76,15 @@ pub fn read(
 // An address from two places.
 pub fn word_at(
     purpose: Purpose,
-    state: &[u8],
+    state: &[u8; 16],
     w: Wiring,
     image: &[u8],
-    list: &mut [u8],
+    list: &mut [u8; 56],
     k: usize,
     one: u16,
     two: u16,
 ) -> u16
-    requires { (k < 6) × Ready w (length state.now) (length image.now) (length list.old) }
+    requires { (k < 6) × (w.size ≤ length image.now) }
     ensures { (t : State) → Stands execution t state.now w →
         Goes (word_at purpose one two) k t.bus image.now list.old result (k + 2) t.bus image.now
         list.new }

@@ -19,45 +19,40 @@ pub const S: usize = 4;
 
 pub const P: usize = 5;
 
-pub fn pc_of(state: &[u8]) -> u16
-    requires { length state.now ≡ 16 }
+pub fn pc_of(state: &[u8; 16]) -> u16
     ensures { result ≡ address (at state.now 6) (at state.now 7) }
 {
     addresses::join(state[6], state[7])
 }
 
-pub fn set_pc(state: &mut [u8], pc: u16)
-    requires { length state.old ≡ 16 }
+pub fn set_pc(state: &mut [u8; 16], pc: u16)
     ensures { state.new ≡ set (set state.old 6 (pc % 256)) 7 (pc / 256) }
 {
     state[6] = (pc % 256) as u8;
     state[7] = (pc / 256) as u8;
 }
 
-pub fn set_s(state: &mut [u8], s: u8)
-    requires { length state.old ≡ 16 }
+pub fn set_s(state: &mut [u8; 16], s: u8)
     ensures { state.new ≡ set state.old 4 s }
 {
     state[S] = s;
 }
 
-pub fn flags_of(state: &[u8]) -> Flags
-    requires { length state.now ≡ 16 }
+pub fn flags_of(state: &[u8; 16]) -> Flags
     ensures { result ≡ flags_of (at state.now 5) }
 {
     flags::flags_of(state[P])
 }
 
-pub fn set_flags(state: &mut [u8], f: Flags)
-    requires { length state.old ≡ 16 }
+pub fn set_flags(state: &mut [u8; 16], f: Flags)
     ensures { state.new ≡ set state.old 5 (byte_of f) }
 {
     state[P] = flags::byte_of(f);
 }
 
 // A byte into a register of this place, and its N and Z.
-pub fn to(state: &mut [u8], register: usize, v: u8)
-    requires { (length state.old ≡ 16) × (register < 16) }
+pub fn to(state: &mut [u8; 16], register: usize, v: u8)
+    requires { register < 16 }
     ensures { state.new
         ≡ set (set state.old 5 (byte_of (nz v (flags_of (at state.old 5))))) register v }
 {
@@ -67,8 +62,7 @@ pub fn to(state: &mut [u8], register: usize, v: u8)
 }
 
 // A byte into A, and the flags with it.
-pub fn to_result(state: &mut [u8], made: Result)
-    requires { length state.old ≡ 16 }
+pub fn to_result(state: &mut [u8; 16], made: Result)
     ensures { state.new ≡ set (set state.old 5 (byte_of made.flags)) 1 made.value }
 {
     let f = made.flags;

@@ -50,8 +50,7 @@ fn event_of(lines: u8, level: u8, i: bool) -> Event
     irq_event(lines, i)
 }
 
-fn event_in(lines: u8, state: &[u8]) -> Event
-    requires { length state.now ≡ 16 }
+fn event_in(lines: u8, state: &[u8; 16]) -> Event
     ensures { (s : State) → state.now ≡ record_of s → result ≡ event_of lines s.nmi s.cpu }
 {
     let f = state::flags_of(state);
@@ -64,8 +63,7 @@ fn long(a: u8, b: u8, c: u8, d: u8) -> u32
     a as u32 + b as u32 * 256 + c as u32 * 65536 + d as u32 * 16777216
 }
 
-fn set_cycles(state: &mut [u8], n: u32)
-    requires { length state.old ≡ 16 }
+fn set_cycles(state: &mut [u8; 16], n: u32)
     ensures { (s : State) → state.old ≡ record_of s →
         state.new ≡ record_of (record { cpu = s.cpu; bus = s.bus; nmi = s.nmi; cycles = n }) }
 {
@@ -76,8 +74,8 @@ fn set_cycles(state: &mut [u8], n: u32)
 }
 
 // "Every step .. answers its number of accesses and adds it to the record's count."
-fn add_cycles(state: &mut [u8], count: usize)
-    requires { (length state.old ≡ 16) × (count ≤ 7) }
+fn add_cycles(state: &mut [u8; 16], count: usize)
+    requires { count ≤ 7 }
     ensures { (s : State) → state.old ≡ record_of s → state.new ≡ record_of (counted count s) }
 {
     let n = long(state[12], state[13], state[14], state[15]);
@@ -91,8 +89,7 @@ fn reset_register(part: u8) -> u8
 }
 
 // "6508 registers 0 or 6509 registers 15, both before its first access"
-fn reset_registers(state: &mut [u8])
-    requires { length state.old ≡ 16 }
+fn reset_registers(state: &mut [u8; 16])
     ensures { (s : State) → state.old ≡ record_of s →
         state.new ≡ record_of (moved s.cpu (reset_bus s.bus) s) }
 {
@@ -102,8 +99,8 @@ fn reset_registers(state: &mut [u8])
 }
 
 // RES, counted.
-fn reset(pins: u8, state: &mut [u8], image: &[u8], list: &mut [u8])
-    requires { Sized (length state.old) (length image.now) (length list.old) }
+fn reset(pins: u8, state: &mut [u8; 16], image: &[u8], list: &mut [u8; 56])
+    requires { Sized (length image.now) }
     ensures { (s : State) → Begins s state.old pins (length image.now) →
         Counted (reset s.cpu) (moved s.cpu (reset_bus s.bus) s) image.now list.old 7 state.new
         image.now list.new }
@@ -115,8 +112,8 @@ fn reset(pins: u8, state: &mut [u8], image: &[u8], list: &mut [u8])
 }
 
 // IRQ or NMI, counted.
-fn interrupt(vector: u16, pins: u8, state: &mut [u8], image: &mut [u8], list: &mut [u8])
-    requires { (vector < 65535) × Sized (length state.old) (length image.old) (length list.old) }
+fn interrupt(vector: u16, pins: u8, state: &mut [u8; 16], image: &mut [u8], list: &mut [u8; 56])
+    requires { (vector < 65535) × Sized (length image.old) }
     ensures { (s : State) → Begins s state.old pins (length image.old) →
         Counted (interrupt vector s.cpu) s image.old list.old 7 state.new image.new
         list.new }
@@ -127,8 +124,8 @@ fn interrupt(vector: u16, pins: u8, state: &mut [u8], image: &mut [u8], list: &m
 }
 
 // The instruction at PC, counted. Answers its accesses, or 0 where the opcode is undefined.
-fn execute(pins: u8, state: &mut [u8], image: &mut [u8], list: &mut [u8]) -> usize
-    requires { Sized (length state.old) (length image.old) (length list.old) }
+fn execute(pins: u8, state: &mut [u8; 16], image: &mut [u8], list: &mut [u8; 56]) -> usize
+    requires { Sized (length image.old) }
     ensures { (result ≤ 7) × ((s : State) → Begins s state.old pins (length image.old) →
         Taken Execute s image.old list.old result state.new image.new list.new) }
 {
@@ -141,8 +138,8 @@ fn execute(pins: u8, state: &mut [u8], image: &mut [u8], list: &mut [u8]) -> usi
 }
 
 // What a step takes. Answers the accesses made, or 0 where it is an instruction whose opcode is undefined.
-fn take(event: Event, pins: u8, state: &mut [u8], image: &mut [u8], list: &mut [u8]) -> usize
-    requires { Sized (length state.old) (length image.old) (length list.old) }
+fn take(event: Event, pins: u8, state: &mut [u8; 16], image: &mut [u8], list: &mut [u8; 56]) -> usize
+    requires { Sized (length image.old) }
     ensures { (result ≤ 7) × ((s : State) → Begins s state.old pins (length image.old) →
         Taken event s image.old list.old result state.new image.new list.new) }
 {
@@ -164,8 +161,8 @@ fn take(event: Event, pins: u8, state: &mut [u8], image: &mut [u8], list: &mut [
 }
 
 // "6 adds PC and opcode"
-fn undefined(pins: u8, state: &[u8], image: &[u8]) -> u64
-    requires { Sized (length state.now) (length image.now) 56 }
+fn undefined(pins: u8, state: &[u8; 16], image: &[u8]) -> u64
+    requires { Sized (length image.now) }
     ensures { (s : State) → Begins s state.now pins (length image.now) →
         result ≡ refusal_word (Undefined s.cpu.pc (opcode_of images s image.now)) }
 {
@@ -179,8 +176,8 @@ fn undefined(pins: u8, state: &[u8], image: &[u8]) -> u64
 }
 
 // The word of a step that took what it takes. "Every step stores the NMI level".
-fn answer(lines: u8, pins: u8, count: usize, state: &mut [u8], image: &[u8]) -> u64
-    requires { (count ≤ 7) × Sized (length state.old) (length image.now) 56 }
+fn answer(lines: u8, pins: u8, count: usize, state: &mut [u8; 16], image: &[u8]) -> u64
+    requires { (count ≤ 7) × Sized (length image.now) }
     ensures { (e : Event) (s : State) (i l l' : List ℕ) → Begins s (record_of s) pins (length i) → 56 ≤ length l →
         Taken e s i l count state.old image.now l' →
         left result state.new image.now l' ≡ worded step_word (advanced e lines s (record_of s) i l) }
@@ -198,7 +195,7 @@ fn answer(lines: u8, pins: u8, count: usize, state: &mut [u8], image: &[u8]) -> 
 
 // The word of a step with no line asserted and no pin high, of a record and an image that fit: nothing else is asked. Who calls it asks for
 // these two first, so that `step` is not compiled into the way that most steps go.
-pub fn quiet(state: &mut [u8], image: &mut [u8], list: &mut [u8]) -> u64
+pub fn quiet(state: &mut [u8; 16], image: &mut [u8], list: &mut [u8; 56]) -> u64
     requires { Fits state.old image.old }
     ensures { left result state.new image.new list.new
         ≡ worded step_word (step images state.old image.old 0 0 list.old) }
@@ -211,7 +208,7 @@ pub fn quiet(state: &mut [u8], image: &mut [u8], list: &mut [u8]) -> u64
 }
 
 // The word of any step of a record and an image that fit: 4 to 6 in order; "no byte moves".
-pub fn step(state: &mut [u8], image: &mut [u8], lines: u8, pins: u8, list: &mut [u8]) -> u64
+pub fn step(state: &mut [u8; 16], image: &mut [u8], lines: u8, pins: u8, list: &mut [u8; 56]) -> u64
     requires { Fits state.old image.old }
     ensures { left result state.new image.new list.new
         ≡ worded step_word (step images state.old image.old lines pins list.old) }

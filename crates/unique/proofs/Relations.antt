@@ -15,7 +15,7 @@ use Rattle.rules.specs.Bus.{World, world, images, board, list_of}
 use Rattle.rules.specs.Record.{record_of}
 use Rattle.rules.specs.Opcodes.{decode, is_defined}
 use Rattle.rules.specs.Step.{Outcome, opcode_of, left}
-use Rattle.wiring.specs.declared.Wiring.{Wiring}
+use Rattle.wiring.specs.declared.bank.Wiring.{Wiring}
 use Rattle.laws.specs.Goes.{Goes, Writes, Does}
 use Rattle.laws.specs.States.{moved}
 use Rattle.wiring.specs.Wiring.{Banked, banked, Wired}

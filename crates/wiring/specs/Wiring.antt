@@ -6,7 +6,7 @@ use Rattle.rules.specs.Basics.{when◌then◌else◌}
 use Rattle.rules.specs.Cycles.{Bank}
 use Rattle.rules.specs.Bus.{is6502, is6508, is6509, selected}
 use Rattle.rules.specs.Record.{register_fits, record_of}
-use Rattle.wiring.specs.declared.Wiring.{Wiring}
+use Rattle.wiring.specs.declared.bank.Wiring.{Wiring}
 
 -- Addresses below this have a rule of the part's own: the registers, and the 6508's first pages.
 abbrev pub plain_of : ℕ → ℕ
@@ -45,11 +45,3 @@ pub record Wired (κ : Bank) (w : Wiring) (u : Bus) : Type 0 where
 pub record Stands (κ : Bank) (s : State) (r : List ℕ) (w : Wiring) : Type 0 where
   pub bytes : r ≡ record_of s
   pub wired : Wired κ w s.bus
-
--- the lengths that an access needs: a whole record, an image that holds every bank, room for a step
-pub record Ready (w : Wiring) (r i l : ℕ) : Type 0 where
-  pub whole : r ≡ 16
-  pub room : 56 ≤ l
-  pub base : w.base + 65536 ≤ w.size
-  pub even : w.size % 65536 ≡ 0
-  pub image : w.size ≤ i

@@ -2,6 +2,8 @@
 
 #![tactic(auto)]
 
+mod bank;
+
 ghost use Rattle.std.specs.Prelude.{◌+◌, ◌*◌, ◌/◌, ◌%◌, ◌≤◌, ◌≡◌, length};
 ghost use Rattle.rules.specs.declared.State.{State};
 ghost use Rattle.rules.specs.Cycles.{execution, indirect};
@@ -10,16 +12,7 @@ ghost use Rattle.rules.specs.Bus.{is6508};
 ghost use Rattle.rules.specs.Record.{record_of};
 ghost use Rattle.wiring.specs.Wiring.{Banked, Sound, Stands};
 
-// The bank that is selected begins at `base` in the image, which has `size` bytes. Addresses below `plain` have a rule of the part's own.
-// From the widest field to the narrowest: what has no gaps stays in registers.
-#[derive(Clone, Copy)]
-pub struct Wiring {
-    pub base: usize,
-    pub size: usize,
-    pub plain: u16,
-    pub bank: u8,
-    pub pins: u8,
-}
+pub use bank::Wiring;
 
 // The first two pages of the 6508 have a rule of their own; on the 6502 no address has.
 fn plain_of(part: u8) -> u16
@@ -37,37 +30,36 @@ fn base_of(bank: u8, size: usize) -> usize
 }
 
 // How a step's accesses go, in the execution bank.
-pub fn wire(state: &[u8], pins: u8, size: usize) -> Wiring
-    requires { (length state.now ≡ 16) × (65536 ≤ size) × (size % 65536 ≡ 0) }
-    ensures { ((result.base + 65536 ≤ size) × (result.size ≡ size))
-        × ((s : State) → state.now ≡ record_of s → Sound s.bus → Banked size → s.bus.pins ≡ pins →
-        s.bus.banks ≡ size / 65536 → Stands execution s state.now result) }
+pub fn wire(state: &[u8; 16], pins: u8, size: usize) -> Wiring
+    requires { (65536 ≤ size) × (size % 65536 ≡ 0) }
+    ensures size { result.size ≡ size }
+    ensures stands { (s : State) → state.now ≡ record_of s → Sound s.bus → Banked size → s.bus.pins ≡ pins →
+        s.bus.banks ≡ size / 65536 → Stands execution s state.now result }
 {
     let part = state[0];
     if part == 9 {
         let bank = state[8];
         return Wiring {
             base: base_of(bank, size),
-            size: size,
+            size,
             plain: 2,
-            bank: bank,
-            pins: pins,
+            bank,
+            pins,
         };
     }
     Wiring {
         base: 0,
-        size: size,
+        size,
         plain: plain_of(part),
         bank: 0,
-        pins: pins,
+        pins,
     }
 }
 
 // The same in the indirect bank, which is one of its own on the 6509 alone.
-pub fn indirect(state: &[u8], w: Wiring) -> Wiring
-    requires { ((length state.now ≡ 16) × (w.base + 65536 ≤ w.size)) × (w.size % 65536 ≡ 0) }
-    ensures { ((result.base + 65536 ≤ w.size) × (result.size ≡ w.size))
-        × ((s : State) → Stands execution s state.now w → Stands indirect s state.now result) }
+pub fn indirect(state: &[u8; 16], w: Wiring) -> Wiring
+    ensures size { result.size ≡ w.size }
+    ensures stands { (s : State) → Stands execution s state.now w → Stands indirect s state.now result }
 {
     if state[0] == 9 {
         let bank = state[9];
@@ -75,7 +67,7 @@ pub fn indirect(state: &[u8], w: Wiring) -> Wiring
             base: base_of(bank, w.size),
             size: w.size,
             plain: w.plain,
-            bank: bank,
+            bank,
             pins: w.pins,
         };
     }

@@ -18,7 +18,7 @@ use Rattle.rules.specs.Record.{record_of}
 use Rattle.laws.specs.Goes.{access, bus_after, Writes}
 use Rattle.laws.specs.States.{moved}
 use Rattle.laws.proofs.Goes.{writes}
-use Rattle.wiring.specs.declared.Wiring.{Wiring}
+use Rattle.wiring.specs.declared.bank.Wiring.{Wiring}
 use Rattle.wiring.specs.Wiring.{Wired, Stands}
 use Rattle.wiring.proofs.Cells.{cell_byte, below, cell_register}
 use Rattle.writes.specs.Left.{registered, put_at}

@@ -3,7 +3,7 @@ use Rattle.std.specs.Prelude.{ℕ, ◌+◌, ◌/◌, List, ltb, eqb, set}
 use Rattle.rules.specs.declared.Bus.{Bus}
 use Rattle.rules.specs.Basics.{when◌then◌else◌}
 use Rattle.rules.specs.Bus.{narrow, with_registers}
-use Rattle.wiring.specs.declared.Wiring.{Wiring}
+use Rattle.wiring.specs.declared.bank.Wiring.{Wiring}
 use Rattle.wiring.specs.Cells.{reached}
 
 -- a register written

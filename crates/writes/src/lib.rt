@@ -10,7 +10,7 @@ ghost use Rattle.rules.specs.declared.Purpose.TheVariants.{Stack};
 ghost use Rattle.rules.specs.Operations.{push_pc};
 ghost use Rattle.rules.specs.Bus.{narrow};
 ghost use Rattle.rules.specs.Record.{record_of};
-ghost use Rattle.wiring.specs.Wiring.{Stands, Ready};
+ghost use Rattle.wiring.specs.Wiring.{Stands};
 ghost use Rattle.laws.specs.Goes.{Goes, Writes};
 ghost use Rattle.laws.specs.States.{moved};
 ghost use Rattle.writes.specs.Left.{registered, put_at};
@@ -25,8 +25,7 @@ fn kept(part: u8, v: u8) -> u8
     if part == 9 { v % 16 } else { v }
 }
 
-fn set_register(state: &mut [u8], a: u16, v: u8)
-    requires { length state.old ≡ 16 }
+fn set_register(state: &mut [u8; 16], a: u16, v: u8)
     ensures { (s : State) → state.old ≡ record_of s →
         state.new ≡ record_of (moved s.cpu (registered s.bus a v) s) }
 {
@@ -55,15 +54,15 @@ fn put(pages: u8, w: Wiring, image: &mut [u8], a: u16, v: u8)
 // One write cycle, the step's k-th.
 pub fn write(
     purpose: Purpose,
-    state: &mut [u8],
+    state: &mut [u8; 16],
     w: Wiring,
     image: &mut [u8],
-    list: &mut [u8],
+    list: &mut [u8; 56],
     k: usize,
     a: u16,
     v: u8,
 )
-    requires { (k < 7) × Ready w (length state.old) (length image.old) (length list.old) }
+    requires { (k < 7) × (w.size ≤ length image.old) }
     ensures { (s : State) (κ : Bank) → Stands κ s state.old w →
         Writes purpose κ a v k s image.old list.old state.new image.new list.new }
 {
@@ -80,8 +79,8 @@ pub fn write(
 }
 
 // One write cycle at the stack, where no part has a register.
-pub fn push(state: &[u8], w: Wiring, image: &mut [u8], list: &mut [u8], k: usize, s: u8, v: u8)
-    requires { (k < 7) × Ready w (length state.now) (length image.old) (length list.old) }
+pub fn push(state: &[u8; 16], w: Wiring, image: &mut [u8], list: &mut [u8; 56], k: usize, s: u8, v: u8)
+    requires { (k < 7) × (w.size ≤ length image.old) }
     ensures { (t : State) (κ : Bank) → Stands κ t state.now w →
         Goes {A = Unit {0}} (write Stack κ (256 + s) v (done tt)) k t.bus image.old list.old tt (k + 1) t.bus
         image.new list.new }
@@ -92,8 +91,8 @@ pub fn push(state: &[u8], w: Wiring, image: &mut [u8], list: &mut [u8], k: usize
 }
 
 // "push PC high, low"
-pub fn push_pc(state: &[u8], w: Wiring, image: &mut [u8], list: &mut [u8], k: usize, pc: u16, s: u8)
-    requires { (k < 6) × Ready w (length state.now) (length image.old) (length list.old) }
+pub fn push_pc(state: &[u8; 16], w: Wiring, image: &mut [u8], list: &mut [u8; 56], k: usize, pc: u16, s: u8)
+    requires { (k < 6) × (w.size ≤ length image.old) }
     ensures { (t : State) → Stands execution t state.now w →
         Goes (push_pc pc s) k t.bus image.old list.old tt (k + 2) t.bus image.new
         list.new }

@@ -4,10 +4,9 @@ use Rattle.rules.specs.Bus.{selected}
 use Rattle.rules.specs.Record.{record_of}
 use Rattle.wiring.proofs.indirect.Goals as goal
 
-pub returns-then-state-eq9 : goal.returns-then-state-eq9
+pub returns-then-state-eq9-clause-stands : goal.returns-then-state-eq9-clause-stands
 unfolding selected record_of
-returns-then-state-eq9 c = (
-  (c.base_of.ensures.0, refl),
+returns-then-state-eq9-clause-stands c =
   λ s h.
       let nine : s.bus.part ≡ 9 = rw h.bytes at c.if-state-eq9.true in
       record {
@@ -22,13 +21,11 @@ returns-then-state-eq9 c = (
               plain = h.wired.plain;
               base = rw (nine, h.wired.banks) (rw h.bytes at (c.base_of.ensures.1 h.wired.banked));
             };
-      },
-)
+      }
 
-pub returns : goal.returns
+pub returns-clause-stands : goal.returns-clause-stands
 unfolding selected record_of
-returns c = (
-  (c.requires.0.1, refl),
+returns-clause-stands c =
   λ s h.
       let other : s.bus.part ≡ 9 → ⊥ = rw h.bytes at c.if-state-eq9.false in
       record {
@@ -43,5 +40,4 @@ returns c = (
               plain = h.wired.plain;
               base = rw (ne_eqb _ 9 other) (rw (ne_eqb _ 9 other) at h.wired.base);
             };
-      },
-)
+      }

@@ -5,10 +5,9 @@ use Rattle.rules.specs.Record.{record_of}
 use Rattle.wiring.proofs.Plain.{plain_is}
 use Rattle.wiring.proofs.wire.Goals as goal
 
-pub returns-then-part-eq9 : goal.returns-then-part-eq9
+pub returns-then-part-eq9-clause-stands : goal.returns-then-part-eq9-clause-stands
 unfolding selected record_of
-returns-then-part-eq9 c = (
-  (c.base_of.ensures.0, refl),
+returns-then-part-eq9-clause-stands c =
   λ s e q k p b.
       let nine : s.bus.part ≡ 9 = rw e at c.if-part-eq9.true in
       record {
@@ -23,13 +22,11 @@ returns-then-part-eq9 c = (
               plain = rw nine;
               base = rw (nine, b) (rw e at (c.base_of.ensures.1 k));
             };
-      },
-)
+      }
 
-pub returns : goal.returns
+pub returns-clause-stands : goal.returns-clause-stands
 unfolding selected record_of
-returns c = (
-  (c.requires.1, refl),
+returns-clause-stands c =
   λ s e q k p b.
       let other : s.bus.part ≡ 9 → ⊥ = rw e at c.if-part-eq9.false in
       record {
@@ -44,5 +41,4 @@ returns c = (
               plain = rw e at c.plain_of.ensures ∙ plain_is s.bus.part q.part other;
               base = rw (ne_eqb _ 9 other);
             };
-      },
-)
+      }
