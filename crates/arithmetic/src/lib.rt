@@ -36,7 +36,7 @@ pub fn changed(o: Changing, v: u8, f: Flags) -> Result
         Changing::Rol => shifted(v % 128 * 2 + flags::bit(f.c), flags::has(v, 128), f),
         Changing::Lsr => shifted(v / 2, flags::has(v, 1), f),
         Changing::Ror => shifted(v / 2 + flags::bit(f.c) * 128, flags::has(v, 1), f),
-        Changing::Dec => by_one(std::num::wrapping_sub_u8(v, 1), f),
-        Changing::Inc => by_one(std::num::wrapping_add_u8(v, 1), f),
+        Changing::Dec => by_one(v.wrapping_sub(1), f),
+        Changing::Inc => by_one(v.wrapping_add(1), f),
     }
 }

@@ -11,13 +11,13 @@ use rules::Internal;
 fn one_more(v: u8) -> u8
     ensures { result ≡ (v + 1) % 256 }
 {
-    std::num::wrapping_add_u8(v, 1)
+    v.wrapping_add(1)
 }
 
 fn one_less(v: u8) -> u8
     ensures { result ≡ (v + 255) % 256 }
 {
-    std::num::wrapping_sub_u8(v, 1)
+    v.wrapping_sub(1)
 }
 
 // Each operation reads the registers that it needs, and no others. A flag is set or cleared where it stands in P.

@@ -1,15 +1,15 @@
 -- How functions that follow a tree are put together.
-use Prim.Native.Nat.{ℕ, ◌+◌, ◌*◌}
+use Prim.Native.Nat.{ℕ, ◌+◌, ◌*◌, ◌≤◌}
 use native.Mathlib.Omega.{arith}
 use mathlib.Core.Path.{◌≡◌, refl, sym, ap, ◌∙◌}
 use mathlib.Core.List.{List, [], ◌∷◌, ◌++◌}
-use lib.ListN.{length, length-append}
+use lib.ListN.{length, take, drop, length-append}
 use lib.Seq.{sets}
 use Rattle.rules.specs.declared.Bus.{Bus}
 use Rattle.rules.specs.Cycles.{Bank, Cycles, done, read, write, ◌>>=◌, Access, run}
 use Rattle.rules.specs.Bus.{world, images, look, stored, selected, board, bytes_of, list_of}
 use Rattle.laws.proofs.Cycles.{run_bind}
-use Rattle.laws.proofs.Lists.{sets_append}
+use Rattle.laws.proofs.Lists.{sets_append, sets_front}
 use Rattle.rules.specs.declared.Cpu.{Cpu}
 use Rattle.rules.specs.declared.State.{State}
 use Rattle.rules.specs.declared.Purpose.{Purpose}
@@ -82,6 +82,19 @@ then_do w d e = then_call (λ x. w) d e
 pub counted : {A : Type 0} {t : Cycles A} {k n m : ℕ} {u u' : Bus} {i l i' l' : List ℕ} {a : A} →
     Goes t k u i l a n u' i' l' → n ≡ m → Goes t k u i l a m u' i' l'
 counted d e = record { made = d.made; ran = d.ran; count = d.count ∙ e; listed = d.listed }
+
+-- accesses that are listed in a list's front are listed in the list
+pub in_front : {A : Type 0} {t : Cycles A} {k n : ℕ} {u u' : Bus} {i i' l' : List ℕ} {a : A} (m : ℕ) (l : List ℕ) → 8 * n ≤ m →
+    Goes t k u i (take m l) a n u' i' l' → Goes t k u i l a n u' i' (l' ++ drop m l)
+in_front {k = k} m l h d =
+    let long = list_long d.made in
+    let within : 8 * k + length (list_of d.made) ≤ m = omega (arith, h, d.count, long) in
+    record {
+      made = d.made;
+      ran = d.ran;
+      count = d.count;
+      listed = rw (← d.listed, sets_front (list_of d.made) l m (8 * k) within);
+    }
 
 pub valued : {A : Type 0} {t : Cycles A} {k n : ℕ} {u u' : Bus} {i l i' l' : List ℕ} {a b : A} →
     Goes t k u i l a n u' i' l' → a ≡ b → Goes t k u i l b n u' i' l'

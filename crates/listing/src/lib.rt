@@ -30,8 +30,9 @@ fn outline(list: &mut [u8; 56], k: usize, a: u16, bank: u8, v: u8)
     ensures { list.new ≡ sets list.old (8 * k) (outline a bank v) }
 {
     let at = 8 * k;
-    list[at] = (a % 256) as u8;
-    list[at + 1] = (a / 256) as u8;
+    let [low, high] = a.to_le_bytes();
+    list[at] = low;
+    list[at + 1] = high;
     list[at + 2] = bank;
     list[at + 3] = v;
     list[at + 4] = 0;

@@ -16,7 +16,7 @@ use rules::{Flags, Reading};
 fn compare(r: u8, m: u8, f: Flags) -> Flags
     ensures { result ≡ compare r m f }
 {
-    flags::nzc(std::num::wrapping_sub_u8(r, m), m <= r, f)
+    flags::nzc(r.wrapping_sub(m), m <= r, f)
 }
 
 // "BIT takes N, V from memory, Z from the AND."

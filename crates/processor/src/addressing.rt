@@ -48,7 +48,7 @@ pub(crate) fn wiring_of(m: Mode, state: &[u8; 16], w: Wiring) -> Wiring
 pub(crate) fn past(n: u16, pc: u16, state: &mut [u8; 16])
     ensures { (s : State) → state.old ≡ record_of s → pc ≡ s.cpu.pc → state.new ≡ record_of (past_in n s) }
 {
-    state::set_pc(state, std::num::wrapping_add_u16(pc, n));
+    state::set_pc(state, pc.wrapping_add(n));
 }
 
 // The high byte of an address is listed, and PC is behind it.
@@ -56,7 +56,7 @@ fn third(high: u8, pc: u16, state: &mut [u8; 16], w: Wiring, list: &mut [u8; 56]
     ensures { (s : State) (i : List ℕ) → Fetched (λ v. high) s state.old i w pc →
         Opens 3 s i list.old state.new list.new }
 {
-    let at = std::num::wrapping_add_u16(pc, 2);
+    let at = pc.wrapping_add(2);
     listing::note_read(Purpose::Operand, list, 2, at, w.bank, high);
     past(3, pc, state);
 }
@@ -68,7 +68,7 @@ fn pointer(state: &[u8; 16], w: Wiring, image: &[u8], list: &mut [u8; 56], k: us
         Goes (pointer z) k s.bus image.now list.old result (k + 2) s.bus
         image.now list.new }
 {
-    let above = std::num::wrapping_add_u8(z, 1) as u16;
+    let above = z.wrapping_add(1) as u16;
     reads::word_at(Purpose::Pointer, state, w, image, list, k, z as u16, above)
 }
 
@@ -88,7 +88,7 @@ fn indexed(state: &[u8; 16], w: Wiring, image: &[u8], list: &mut [u8; 56], k: us
         k,
         addresses::old_page(a, i),
     );
-    std::num::wrapping_add_u16(a, i as u16)
+    a.wrapping_add(i as u16)
 }
 
 // What a load's first read is for, near being "the old page with the summed low byte": it is the sum unless a page was crossed.
@@ -117,7 +117,7 @@ fn load_indexed(
         list.new) }
 {
     let near = addresses::old_page(a, i);
-    let sum = std::num::wrapping_add_u16(a, i as u16);
+    let sum = a.wrapping_add(i as u16);
     let first = reads::read(first_for(near, sum), state, w, image, list, k, near);
     if sum == near {
         return Loaded {
@@ -164,7 +164,7 @@ fn zero_indexed(
 {
     past(2, pc, state);
     reads::read(Purpose::Wasted, state, w, image, list, 2, z as u16);
-    std::num::wrapping_add_u8(z, i)
+    z.wrapping_add(i)
 }
 
 // Where a store, a shift, INC or DEC finds its data by a,X or a,Y.

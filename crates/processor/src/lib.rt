@@ -190,7 +190,7 @@ fn branch(
         Does (perform (Branch t o) (past 2 s.cpu)) 2 s image.now list.old result state.new
         image.now list.new) }
 {
-    let next = std::num::wrapping_add_u16(pc, 2);
+    let next = pc.wrapping_add(2);
     if taken(t, state[state::P]) {
         let to = addresses::target(next, o);
         reads::read(Purpose::Wasted, state, w, image, list, 2, next);
@@ -348,12 +348,12 @@ fn perform(
             5
         }
         Instruction::Jsr(low) => {
-            let two = std::num::wrapping_add_u16(pc, 2);
+            let two = pc.wrapping_add(2);
             jumps::jsr(low, two, state, w, image, list);
             6
         }
         Instruction::Brk => {
-            let next = std::num::wrapping_add_u16(pc, 1);
+            let next = pc.wrapping_add(1);
             sequence::brk(next, state, w, image, list);
             7
         }
@@ -392,8 +392,8 @@ fn fetch(state: &[u8; 16], w: Wiring, image: &[u8], pc: u16) -> Bytes
             };
         }
     }
-    let one = std::num::wrapping_add_u16(pc, 1);
-    let two = std::num::wrapping_add_u16(pc, 2);
+    let one = pc.wrapping_add(1);
+    let two = pc.wrapping_add(2);
     Bytes {
         opcode: reads::look(state, w, image, pc),
         low: reads::look(state, w, image, one),
@@ -428,15 +428,14 @@ fn begin(i: Instruction, f: Bytes, pc: u16, w: Wiring, list: &mut [u8; 56])
     ensures { (s : State) (m : List ℕ) → Wired execution w s.bus → pc ≡ s.cpu.pc → Found f s m →
         Goes (begun (size_in 2 i) s.cpu.pc) 0 s.bus m list.old f.low 2 s.bus m list.new }
 {
-    let one = std::num::wrapping_add_u16(pc, 1);
+    let one = pc.wrapping_add(1);
     listing::note_read(Purpose::Opcode, list, 0, pc, w.bank, f.opcode);
     listing::note_read(second_for(i), list, 1, one, w.bank, f.low);
 }
 
 // The instruction at PC. Answers the accesses made, or 0 where the opcode is undefined: then nothing has changed.
 pub fn instruction(pins: u8, state: &mut [u8; 16], image: &mut [u8], list: &mut [u8; 56]) -> usize
-    requires { ((56 ≤ length list.old))
-        × ((65536 ≤ length image.old) × (length image.old % 65536 ≡ 0)) }
+    requires { (65536 ≤ length image.old) × (length image.old % 65536 ≡ 0) }
     ensures { (result ≤ 7) × ((s : State) → Begins s state.old pins (length image.old) →
         Executed s image.old list.old result state.new image.new list.new) }
 {

@@ -2,7 +2,7 @@
 
 #![tactic(auto)]
 
-ghost use Rattle.std.specs.Prelude.{◌<◌, length};
+ghost use Rattle.std.specs.Prelude.{◌<◌, ◌≤◌, length};
 ghost use Rattle.rules.specs.declared.State.{State};
 ghost use Rattle.rules.specs.Cycles.{execution};
 ghost use Rattle.rules.specs.Operations.{with_pc, enter, brk};
@@ -55,7 +55,7 @@ pub fn brk(pc: u16, state: &mut [u8; 16], w: Wiring, image: &mut [u8], list: &mu
         Does (brk (with_pc pc s.cpu)) 2 s image.old list.old 7 state.new image.new
         list.new }
 {
-    let back = std::num::wrapping_add_u16(pc, 1);
+    let back = pc.wrapping_add(1);
     let s = state[state::S];
     let p = flags::with_bit_4(state::flags_of(state));
     push_three(state, w, image, list, back, s, p);

@@ -34,7 +34,7 @@ fn push(v: u8, state: &mut [u8; 16], w: Wiring, image: &mut [u8], list: &mut [u8
 fn up(k: u8, s: u8) -> u8
     ensures { result ≡ sum8 s k }
 {
-    std::num::wrapping_add_u8(s, k)
+    s.wrapping_add(k)
 }
 
 // "read at S, read at S+1"
@@ -119,7 +119,7 @@ fn rts(state: &mut [u8; 16], w: Wiring, image: &[u8], list: &mut [u8; 56])
     );
     let a = word_above(state, w, image, list, 3, s);
     reads::read(Purpose::Wasted, state, w, image, list, 5, a);
-    set_s_pc(state, up(2, s), std::num::wrapping_add_u16(a, 1));
+    set_s_pc(state, up(2, s), a.wrapping_add(1));
 }
 
 // "RTI: PC+1, read at S, pull P, low, high."

@@ -28,8 +28,9 @@ pub fn pc_of(state: &[u8; 16]) -> u16
 pub fn set_pc(state: &mut [u8; 16], pc: u16)
     ensures { state.new ≡ set (set state.old 6 (pc % 256)) 7 (pc / 256) }
 {
-    state[6] = (pc % 256) as u8;
-    state[7] = (pc / 256) as u8;
+    let [low, high] = pc.to_le_bytes();
+    state[6] = low;
+    state[7] = high;
 }
 
 pub fn set_s(state: &mut [u8; 16], s: u8)

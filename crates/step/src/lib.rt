@@ -11,7 +11,7 @@ ghost use Rattle.rules.specs.Basics.{when◌then◌else◌};
 ghost use Rattle.rules.specs.Answers.{step_word, refusal_word};
 ghost use Rattle.rules.specs.Interrupts.{irq_of, event_of, interrupt, reset};
 ghost use Rattle.rules.specs.Bus.{images, reset_bus};
-ghost use Rattle.rules.specs.Record.{long, record_of};
+ghost use Rattle.rules.specs.Record.{record_of};
 ghost use Rattle.rules.specs.Step.{opcode_of, step, left, worded};
 ghost use Rattle.checks.specs.Checks.{Fits};
 ghost use Rattle.laws.specs.Goes.{Does};
@@ -57,20 +57,15 @@ fn event_in(lines: u8, state: &[u8; 16]) -> Event
     event_of(lines, state[10], f.i)
 }
 
-fn long(a: u8, b: u8, c: u8, d: u8) -> u32
-    ensures { result ≡ long a b c d }
-{
-    a as u32 + b as u32 * 256 + c as u32 * 65536 + d as u32 * 16777216
-}
-
 fn set_cycles(state: &mut [u8; 16], n: u32)
     ensures { (s : State) → state.old ≡ record_of s →
         state.new ≡ record_of (record { cpu = s.cpu; bus = s.bus; nmi = s.nmi; cycles = n }) }
 {
-    state[12] = (n % 256) as u8;
-    state[13] = (n / 256 % 256) as u8;
-    state[14] = (n / 65536 % 256) as u8;
-    state[15] = (n / 16777216) as u8;
+    let [a, b, c, d] = n.to_le_bytes();
+    state[12] = a;
+    state[13] = b;
+    state[14] = c;
+    state[15] = d;
 }
 
 // "Every step .. answers its number of accesses and adds it to the record's count."
@@ -78,8 +73,8 @@ fn add_cycles(state: &mut [u8; 16], count: usize)
     requires { count ≤ 7 }
     ensures { (s : State) → state.old ≡ record_of s → state.new ≡ record_of (counted count s) }
 {
-    let n = long(state[12], state[13], state[14], state[15]);
-    set_cycles(state, std::num::wrapping_add_u32(n, count as u32));
+    let n = u32::from_le_bytes([state[12], state[13], state[14], state[15]]);
+    set_cycles(state, n.wrapping_add(count as u32));
 }
 
 fn reset_register(part: u8) -> u8
@@ -169,10 +164,7 @@ fn undefined(pins: u8, state: &[u8; 16], image: &[u8]) -> u64
     let w = wiring::wire(state, pins, image.len());
     let pc = state::pc_of(state);
     let opcode = reads::look(state, w, image, pc);
-    words::refusal_word(Refusal::Undefined {
-        pc: pc,
-        opcode: opcode,
-    })
+    words::refusal_word(Refusal::Undefined { pc, opcode })
 }
 
 // The word of a step that took what it takes. "Every step stores the NMI level".
@@ -195,20 +187,22 @@ fn answer(lines: u8, pins: u8, count: usize, state: &mut [u8; 16], image: &[u8])
 
 // The word of a step with no line asserted and no pin high, of a record and an image that fit: nothing else is asked. Who calls it asks for
 // these two first, so that `step` is not compiled into the way that most steps go.
-pub fn quiet(state: &mut [u8; 16], image: &mut [u8], list: &mut [u8; 56]) -> u64
+pub fn quiet(state: &mut [u8; 16], image: &mut [u8], list: &mut [u8]) -> u64
     requires { Fits state.old image.old }
     ensures { left result state.new image.new list.new
         ≡ worded step_word (step images state.old image.old 0 0 list.old) }
 {
-    if list.len() < 56 {
-        return words::refusal_word(Refusal::Room);
+    match list.first_chunk_mut::<56>() {
+        None => words::refusal_word(Refusal::Room),
+        Some(room) => {
+            let count = execute(0, state, image, room);
+            answer(0, 0, count, state, image)
+        }
     }
-    let count = execute(0, state, image, list);
-    answer(0, 0, count, state, image)
 }
 
 // The word of any step of a record and an image that fit: 4 to 6 in order; "no byte moves".
-pub fn step(state: &mut [u8; 16], image: &mut [u8], lines: u8, pins: u8, list: &mut [u8; 56]) -> u64
+pub fn step(state: &mut [u8; 16], image: &mut [u8], lines: u8, pins: u8, list: &mut [u8]) -> u64
     requires { Fits state.old image.old }
     ensures { left result state.new image.new list.new
         ≡ worded step_word (step images state.old image.old lines pins list.old) }
@@ -216,10 +210,12 @@ pub fn step(state: &mut [u8; 16], image: &mut [u8], lines: u8, pins: u8, list: &
     if !checks::lines_fit(state[0], lines, pins) {
         return words::refusal_word(Refusal::Lines);
     }
-    if list.len() < 56 {
-        return words::refusal_word(Refusal::Room);
+    match list.first_chunk_mut::<56>() {
+        None => words::refusal_word(Refusal::Room),
+        Some(room) => {
+            let event = event_in(lines, state);
+            let count = take(event, pins, state, image, room);
+            answer(lines, pins, count, state, image)
+        }
     }
-    let event = event_in(lines, state);
-    let count = take(event, pins, state, image, list);
-    answer(lines, pins, count, state, image)
 }

@@ -97,14 +97,7 @@ pub fn push_pc(state: &[u8; 16], w: Wiring, image: &mut [u8], list: &mut [u8; 56
         Goes (push_pc pc s) k t.bus image.old list.old tt (k + 2) t.bus image.new
         list.new }
 {
-    push(state, w, image, list, k, s, (pc / 256) as u8);
-    push(
-        state,
-        w,
-        image,
-        list,
-        k + 1,
-        addresses::down(1, s),
-        (pc % 256) as u8,
-    );
+    let [low, high] = pc.to_le_bytes();
+    push(state, w, image, list, k, s, high);
+    push(state, w, image, list, k + 1, addresses::down(1, s), low);
 }

@@ -29,10 +29,8 @@ returns-in-Ror c =
 
 pub returns-in-Dec : goal.returns-in-Dec
 unfolding changed
-returns-in-Dec c =
-    let less = c.wrapping_sub_u8 in
-    rw (c.in-Dec.is, c.by_one.ensures, lowered _ _ less.type_inv less.ensures.value)
+returns-in-Dec c = rw (c.in-Dec.is, c.by_one.ensures)
 
 pub returns-in-Inc : goal.returns-in-Inc
 unfolding changed
-returns-in-Inc c = rw (c.in-Inc.is, c.by_one-in-Inc.ensures, c.wrapping_add_u8.ensures.value)
+returns-in-Inc c = rw (c.in-Inc.is, c.by_one-in-Inc.ensures)

@@ -8,5 +8,5 @@ returns c =
     λ s i w p f.
     then_read _ (reads _ execution _ _ _ 0 s.bus i _ _ f.opcode w.bank (rw p at c.note_read.ensures))
     (reads _ execution _ _ _ 1 s.bus i _ _ f.low w.bank
-    (rw (c.wrapping_add_u16-one.ensures.value, p, c.second_for.ensures)
+    (rw (p, c.second_for.ensures)
     at c.note_read-2.ensures))

@@ -10,11 +10,10 @@ unfolding perform branch_to ◌>>=◌
 returns-then-to-next c = (
   omega arith,
   λ s h p.
-      let next = rw p at c.wrapping_add_u16-next.ensures.value in
       let yes = rw (c.taken.ensures, (holds s h.bytes).p) at c.if-taken.true in
-      let to = rw next at c.target-to.ensures in
-      let near = rw (to, next) at c.if-to-next.true in
-      let first = rw next at (c.read.ensures s execution h) in
+      let to = rw p at c.target-to.ensures in
+      let near = rw (to, p) at c.if-to-next.true in
+      let first = rw p at (c.read.ensures s execution h) in
       rw (yes, eq-eqb _ _ near) (does s (makes_pc to c.set_pc.ensures s h.bytes) (then_read _ first ended)),
 )
 
@@ -23,12 +22,11 @@ unfolding perform branch_to ◌>>=◌
 returns-then-taken c = (
   omega arith,
   λ s h p.
-      let next = rw p at c.wrapping_add_u16-next.ensures.value in
       let yes = rw (c.taken.ensures, (holds s h.bytes).p) at c.if-taken.true in
-      let to = rw next at c.target-to.ensures in
-      let far = rw (to, next) at c.if-to-next.false in
-      let first = rw next at (c.read.ensures s execution h) in
-      let second = rw (to, next) at (c.read-then-taken.ensures s execution h) in
+      let to = rw p at c.target-to.ensures in
+      let far = rw (to, p) at c.if-to-next.false in
+      let first = rw p at (c.read.ensures s execution h) in
+      let second = rw (to, p) at (c.read-then-taken.ensures s execution h) in
       rw (yes, ne_eqb _ _ far)
       (does s (makes_pc to c.set_pc-then-taken.ensures s h.bytes) (then_read _ first (then_read _ second ended))),
 )
@@ -39,6 +37,5 @@ returns c = (
   omega arith,
   λ s h p.
       let no = rw (c.taken.ensures, (holds s h.bytes).p) at c.if-taken.false in
-      let next = rw p at c.wrapping_add_u16-next.ensures.value in
-      rw no (does s (makes_pc next c.set_pc-2.ensures s h.bytes) ended),
+      rw no (does s (makes_pc (rw p) c.set_pc-2.ensures s h.bytes) ended),
 )

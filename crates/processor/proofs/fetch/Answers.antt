@@ -22,6 +22,6 @@ returns c =
     λ s h p.
     record {
       opcode = rw p at (c.look.ensures s execution h);
-      low = rw (c.wrapping_add_u16-one.ensures.value, p) at (c.look-2.ensures s execution h);
-      high = rw (c.wrapping_add_u16-two.ensures.value, p) at (c.look-3.ensures s execution h);
+      low = rw p at (c.look-2.ensures s execution h);
+      high = rw p at (c.look-3.ensures s execution h);
     }

@@ -12,7 +12,7 @@ pub returns-in-Undefined : goal.returns-in-Undefined
 returns-in-Undefined c = (
   omega arith,
   λ s b.
-      let t = c.wire-w.ensures.1 s b.bytes b.sound b.banked b.pins b.banks in
+      let t = c.wire-w.ensures.stands s b.bytes b.sound b.banked b.pins b.banks in
       let f = c.fetch-f.result in
       let found = c.fetch-f.ensures s t (c.pc_of-pc.ensures ∙ (holds s b.bytes).pc) in
       let is = sym c.in-Undefined.is ∙ c.decode-i.ensures in
@@ -25,13 +25,7 @@ perform-requires c =
     let is = c.decode-i.ensures in
     let sure = defined_is f.opcode f.low f.high _ is c.in_default.not-Undefined in (
       rw is (short_is f.opcode _ _ (omega (arith, c.fetch-f.type_inv)) ∙ sure),
-      record {
-        whole = c.requires.0.0;
-        room = rw c.begin.auto.list c.requires.0.1;
-        base = omega (arith, c.wire-w.ensures.0);
-        even = omega (arith, c.wire-w.ensures.0, c.requires.1.1);
-        image = omega (arith, c.wire-w.ensures.0);
-      },
+      omega (arith, c.wire-w.ensures.size),
     )
 
 pub returns : goal.returns
@@ -39,7 +33,7 @@ unfolding ◌>>=◌
 returns c = (
   c.perform.ensures.0,
   λ s b.
-      let t = c.wire-w.ensures.1 s b.bytes b.sound b.banked b.pins b.banks in
+      let t = c.wire-w.ensures.stands s b.bytes b.sound b.banked b.pins b.banks in
       let pc = c.pc_of-pc.ensures ∙ (holds s b.bytes).pc in
       let f = c.fetch-f.result in
       let found = c.fetch-f.ensures s t pc in

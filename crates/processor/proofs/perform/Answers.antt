@@ -44,8 +44,7 @@ unfolding perform rest
 returns-in-Jsr c = (
   omega arith,
   λ s h.
-      let two = rw h.here at c.wrapping_add_u16-two.ensures.value in
-      rw c.in-Jsr.is (rw two at (c.jsr.ensures s h.stands)),
+      rw c.in-Jsr.is (rw h.here at (c.jsr.ensures s h.stands)),
 )
 
 pub returns-in-Brk : goal.returns-in-Brk
@@ -53,8 +52,7 @@ unfolding perform rest
 returns-in-Brk c = (
   omega arith,
   λ s h.
-      let next = rw h.here at c.wrapping_add_u16-next.ensures.value in
-      rw c.in-Brk.is (rw next at (c.brk.ensures s h.stands)),
+      rw c.in-Brk.is (rw h.here at (c.brk.ensures s h.stands)),
 )
 
 pub returns-in-Store : goal.returns-in-Store

@@ -9,8 +9,7 @@ pub returns : goal.returns
 unfolding brk enter ◌>>=◌
 returns c =
     λ s h.
-    let back = c.wrapping_add_u16-back.ensures.value in
     let sp = (holds s h.bytes).s in
     let p = rw (c.flags_of.ensures ∙ (holds s h.bytes).p) at c.with_bit_4-p.ensures in
-    let pushed = rw (back, sp, p) at (c.push_three.ensures s h) in
+    let pushed = rw (sp, p) at (c.push_three.ensures s h) in
     do_does _ pushed (c.enter.ensures s h)

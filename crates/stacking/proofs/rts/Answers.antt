@@ -12,7 +12,7 @@ returns c =
     λ s h.
     let sp = (holds s h.bytes).s in
     does s
-    (rw (c.wrapping_add_u16.ensures.value, c.up.ensures, sp) at (c.set_s_pc.ensures s h.bytes))
+    (rw (c.up.ensures, sp) at (c.set_s_pc.ensures s h.bytes))
     (then_read _ (rw (c.stack.ensures, sp) at (c.read.ensures s execution h))
     (then_call (λ a. read Wasted execution a (λ v. done (with_pc (sum16 a 1) (with_s (sum8 s.cpu.s 2) s.cpu))))
     (rw sp at (c.word_above-a.ensures s h))

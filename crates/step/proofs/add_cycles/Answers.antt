@@ -5,5 +5,4 @@ use Rattle.step.proofs.add_cycles.Goals as goal
 pub returns : goal.returns
 unfolding record_of
 returns c = λ s e.
-    let n = rw (c.long-n.ensures, e, long_of s.cycles) at c.wrapping_add_u32.ensures.value in
-    rw n at (c.set_cycles.ensures s e)
+    rw (c.long-n.ensures, e, long_of s.cycles) at (c.set_cycles.ensures s e)

@@ -5,6 +5,6 @@ use Rattle.step.proofs.undefined.Goals as goal
 
 pub returns : goal.returns
 returns c = λ s b.
-    let t = c.wire-w.ensures.1 s b.bytes b.sound b.banked b.pins b.banks in
+    let t = c.wire-w.ensures.stands s b.bytes b.sound b.banked b.pins b.banks in
     let pc = c.pc_of-pc.ensures ∙ (holds s b.bytes).pc in
     rw (pc, rw pc at (c.look-opcode.ensures s execution t)) at c.refusal_word.ensures

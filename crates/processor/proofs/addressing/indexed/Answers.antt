@@ -6,4 +6,4 @@ pub returns : goal.returns
 unfolding indexed
 returns c = λ s κ h.
     let first = rw c.old_page.ensures at (c.read.ensures s κ h) in
-    rw c.wrapping_add_u16.ensures.value (then_read _ first ended)
+    then_read _ first ended

@@ -93,7 +93,7 @@ returns-in-IndirectY c =
     let b = ⊎_elim {C = Through c.args.m w.z} in_execution in_indirect w.is in (
       c.from_indirect_y.ensures.0,
       λ s h.
-          let there = rw w.m-is at (c.wiring_of-there.ensures.1 s h.stands) in
+          let there = rw w.m-is at (c.wiring_of-there.ensures.stands s h.stands) in
           let found = c.from_indirect_y.ensures.1 s _ h.stands h.here there in
           reaches_through load load_through (λ c z. refl) (λ c z. refl) b found,
     )

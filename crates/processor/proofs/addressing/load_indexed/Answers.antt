@@ -1,5 +1,5 @@
 use Rattle.laws.proofs.Goes.{ended, then_read, counted}
-use Rattle.std.proofs.Common.{arith}
+use Rattle.std.proofs.Common.{arith, refl}
 use Rattle.processor.proofs.Crossing.{stays, leaves}
 use Rattle.rules.specs.Addressing.{load_indexed}
 use Rattle.processor.proofs.addressing.load_indexed.Goals as goal
@@ -7,24 +7,22 @@ use Rattle.processor.proofs.addressing.load_indexed.Goals as goal
 pub returns-then-sum-near : goal.returns-then-sum-near
 unfolding load_indexed
 returns-then-sum-near c =
-    let sum = c.wrapping_add_u16-sum.ensures.value in
     let near = c.old_page-near.ensures in
-    let why = c.first_for.ensures _ _ near sum in (
+    let why = c.first_for.ensures _ _ near refl in (
       omega arith,
       λ s κ h.
           let first = rw (near, why) at (c.read-first.ensures s κ h) in
-          then_read _ first (rw (stays _ _ (rw (sum, near) at c.if-sum-near.true)) ended),
+          then_read _ first (rw (stays _ _ (rw near at c.if-sum-near.true)) ended),
     )
 
 pub returns : goal.returns
 unfolding load_indexed
 returns c =
-    let sum = c.wrapping_add_u16-sum.ensures.value in
     let near = c.old_page-near.ensures in
-    let why = c.first_for.ensures _ _ near sum in (
+    let why = c.first_for.ensures _ _ near refl in (
       omega arith,
       λ s κ h.
           let first = rw (near, why) at (c.read-first.ensures s κ h) in
-          let second = rw sum at (c.read-second.ensures s κ h) in
-          then_read _ first (rw (leaves _ _ (rw (sum, near) at c.if-sum-near.false)) (counted second (omega arith))),
+          let second = c.read-second.ensures s κ h in
+          then_read _ first (rw (leaves _ _ (rw near at c.if-sum-near.false)) (counted second (omega arith))),
     )

@@ -87,7 +87,7 @@ returns-in-IndirectY c =
     let b = ⊎_elim {C = Through c.args.m w.z} in_execution in_indirect w.is in (
       (omega arith, through_most b),
       λ s h.
-          let there = rw w.m-is at (c.wiring_of-there.ensures.1 s h.stands) in
+          let there = rw w.m-is at (c.wiring_of-there.ensures.stands s h.stands) in
           let found = c.at_indirect_y.ensures s _ h.stands h.here there in
           reaches_through place place_through (λ c z. refl) (λ c z. refl) b found,
     )

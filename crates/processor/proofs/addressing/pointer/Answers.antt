@@ -3,5 +3,4 @@ use Rattle.processor.proofs.addressing.pointer.Goals as goal
 
 pub returns : goal.returns
 unfolding pointer
-returns c = λ s h.
-    rw c.wrapping_add_u8-above.ensures.value at (c.word_at.ensures s h)
+returns c = λ s h. c.word_at.ensures s h

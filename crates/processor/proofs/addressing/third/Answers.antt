@@ -7,7 +7,7 @@ unfolding ◌>>=◌
 returns c =
     λ s i h.
     let p = h.here in
-    let noted = rw (c.wrapping_add_u16-at.ensures.value, p) at c.note_read.ensures in
+    let noted = rw p at c.note_read.ensures in
     record {
       bytes = c.past.ensures s h.stands.bytes p;
       goes = then_read _ (reads _ execution _ _ _ 2 s.bus i _ _ h.told h.stands.wired.bank noted) ended;

@@ -10,4 +10,4 @@ returns c =
     λ s h p.
     let e = c.past.ensures s h.bytes p in
     let first = c.read.ensures _ execution (stands_past 2 h e) in
-    reaches 2 (two e) (rw c.wrapping_add_u8.ensures.value (then_read _ first ended))
+    reaches 2 (two e) (then_read _ first ended)
