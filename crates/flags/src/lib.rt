@@ -34,7 +34,7 @@ pub fn flags_of(p: u8) -> Flags
 pub fn bit(b: bool) -> u8
     ensures { (result ≡ bit b) × (result ≤ 1) }
 {
-    if b { 1 } else { 0 }
+    u8::from(b)
 }
 
 // "P is N V 1 0 D I Z C from bit 7 down."
@@ -52,28 +52,19 @@ pub fn with_bit_4(f: Flags) -> u8
 }
 
 // "loads, pulls of A, transfers except TXS, logic and steps by one set N, Z"; those that do not set C give it as it is.
-pub fn nzc(v: u8, c: bool, f: Flags) -> Flags
-    ensures { result ≡ with_c c (nz v f) }
+pub fn nzc(v: u8, carry: bool, f: Flags) -> Flags
+    ensures { result ≡ with_c carry (nz v f) }
 {
     Flags {
         n: 128 <= v,
-        v: f.v,
-        d: f.d,
-        i: f.i,
         z: v == 0,
-        c: c,
+        c: carry,
+        ..f
     }
 }
 
 pub fn with_i(b: bool, f: Flags) -> Flags
     ensures { result ≡ with_i b f }
 {
-    Flags {
-        n: f.n,
-        v: f.v,
-        d: f.d,
-        i: b,
-        z: f.z,
-        c: f.c,
-    }
+    Flags { i: b, ..f }
 }

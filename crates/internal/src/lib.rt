@@ -8,37 +8,25 @@ ghost use Rattle.state.specs.Makes.{Makes};
 
 use rules::Internal;
 
-fn one_more(v: u8) -> u8
-    ensures { result ≡ (v + 1) % 256 }
-{
-    v.wrapping_add(1)
-}
-
-fn one_less(v: u8) -> u8
-    ensures { result ≡ (v + 255) % 256 }
-{
-    v.wrapping_sub(1)
-}
-
 // Each operation reads the registers that it needs, and no others. A flag is set or cleared where it stands in P.
 pub fn inside(o: Internal, state: &mut [u8; 16])
     ensures { Makes (inside o) state.old state.new }
 {
     match o {
-        Internal::Clc => state[state::P] = state[state::P] & 254,
-        Internal::Sec => state[state::P] = state[state::P] | 1,
+        Internal::Clc => state[state::P] &= 254,
+        Internal::Sec => state[state::P] |= 1,
         Internal::Tsx => {
             let s = state[state::S];
             state::to(state, state::X, s)
         }
-        Internal::Sei => state[state::P] = state[state::P] | 4,
+        Internal::Sei => state[state::P] |= 4,
         Internal::Tya => {
             let y = state[state::Y];
             state::to(state, state::A, y)
         }
-        Internal::Clv => state[state::P] = state[state::P] & 191,
-        Internal::Cld => state[state::P] = state[state::P] & 247,
-        Internal::Sed => state[state::P] = state[state::P] | 8,
+        Internal::Clv => state[state::P] &= 191,
+        Internal::Cld => state[state::P] &= 247,
+        Internal::Sed => state[state::P] |= 8,
         Internal::Txa => {
             let x = state[state::X];
             state::to(state, state::A, x)
@@ -49,12 +37,12 @@ pub fn inside(o: Internal, state: &mut [u8; 16])
         }
         Internal::Dex => {
             let x = state[state::X];
-            state::to(state, state::X, one_less(x))
+            state::to(state, state::X, x.wrapping_sub(1))
         }
         Internal::Nop => {}
         Internal::Dey => {
             let y = state[state::Y];
-            state::to(state, state::Y, one_less(y))
+            state::to(state, state::Y, y.wrapping_sub(1))
         }
         Internal::Tay => {
             let a = state[state::A];
@@ -62,11 +50,11 @@ pub fn inside(o: Internal, state: &mut [u8; 16])
         }
         Internal::Iny => {
             let y = state[state::Y];
-            state::to(state, state::Y, one_more(y))
+            state::to(state, state::Y, y.wrapping_add(1))
         }
         Internal::Inx => {
             let x = state[state::X];
-            state::to(state, state::X, one_more(x))
+            state::to(state, state::X, x.wrapping_add(1))
         }
     }
 }

@@ -26,10 +26,8 @@ fn bit_test(a: u8, m: u8, f: Flags) -> Flags
     Flags {
         n: flags::has(m, 128),
         v: flags::has(m, 64),
-        d: f.d,
-        i: f.i,
         z: a & m == 0,
-        c: f.c,
+        ..f
     }
 }
 

@@ -40,10 +40,9 @@ fn binary(a: u8, m: u8, f: Flags) -> Result
         flags: Flags {
             n: 128 <= value,
             v: overflows(a, m, c),
-            d: f.d,
-            i: f.i,
             z: value == 0,
             c: 256 <= t,
+            ..f
         },
     }
 }
@@ -87,10 +86,9 @@ fn decimal(a: u8, m: u8, f: Flags) -> Result
         flags: Flags {
             n: t / 128 % 2 == 1,
             v: overflows(high_a, high_m, l),
-            d: f.d,
-            i: f.i,
             z: (a as u16 + m as u16 + c) % 256 == 0,
             c: 256 <= sum,
+            ..f
         },
     }
 }

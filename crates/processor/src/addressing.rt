@@ -73,7 +73,15 @@ fn pointer(state: &[u8; 16], w: Wiring, image: &[u8], list: &mut [u8; 56], k: us
 }
 
 // "read at the old page with the summed low byte; then the data at the full sum"
-fn indexed(state: &[u8; 16], w: Wiring, image: &[u8], list: &mut [u8; 56], k: usize, a: u16, i: u8) -> u16
+fn indexed(
+    state: &[u8; 16],
+    w: Wiring,
+    image: &[u8],
+    list: &mut [u8; 56],
+    k: usize,
+    a: u16,
+    i: u8,
+) -> u16
     requires { (k < 7) × (w.size ≤ length image.now) }
     ensures { (s : State) (κ : Bank) → Stands κ s state.now w →
         Goes (indexed κ a i) k s.bus image.now list.old result (k + 1) s.bus image.now
@@ -188,7 +196,14 @@ fn at_absolute_indexed(
 }
 
 // By (z,X).
-fn at_indirect_x(z: u8, pc: u16, state: &mut [u8; 16], w: Wiring, image: &[u8], list: &mut [u8; 56]) -> u16
+fn at_indirect_x(
+    z: u8,
+    pc: u16,
+    state: &mut [u8; 16],
+    w: Wiring,
+    image: &[u8],
+    list: &mut [u8; 56],
+) -> u16
     requires { w.size ≤ length image.now }
     ensures { (s : State) → Stands execution s state.old w → pc ≡ s.cpu.pc →
         Reaches 2 (place s.cpu (IndirectX z)) s image.now list.old result 5
@@ -221,7 +236,14 @@ fn at_indirect_y(
 }
 
 // What a load finds by z.
-fn from_zero(z: u8, pc: u16, state: &mut [u8; 16], w: Wiring, image: &[u8], list: &mut [u8; 56]) -> Loaded
+fn from_zero(
+    z: u8,
+    pc: u16,
+    state: &mut [u8; 16],
+    w: Wiring,
+    image: &[u8],
+    list: &mut [u8; 56],
+) -> Loaded
     requires { w.size ≤ length image.now }
     ensures { (result.count ≤ 7) × ((s : State) → Stands execution s state.old w → pc ≡ s.cpu.pc →
         Reaches 2 (get Data z) s image.now list.old result.value result.count

@@ -91,7 +91,14 @@ fn rewrite(
     state::set_flags(state, after);
 }
 
-fn change(o: Changing, at: Spot, state: &mut [u8; 16], w: Wiring, image: &mut [u8], list: &mut [u8; 56])
+fn change(
+    o: Changing,
+    at: Spot,
+    state: &mut [u8; 16],
+    w: Wiring,
+    image: &mut [u8],
+    list: &mut [u8; 56],
+)
     requires { (at.count < 5) × (w.size ≤ length image.old) }
     ensures { (s : State) → Stands execution s state.old w →
         Does (changed_at o at.address s.cpu) at.count s image.old list.old (at.count + 3)
@@ -138,14 +145,10 @@ fn flag_of(t: Condition) -> u8
     ensures { result ≡ weight_of t }
 {
     match t {
-        Condition::Bpl => 128,
-        Condition::Bmi => 128,
-        Condition::Bvc => 64,
-        Condition::Bvs => 64,
-        Condition::Bcc => 1,
-        Condition::Bcs => 1,
-        Condition::Bne => 2,
-        Condition::Beq => 2,
+        Condition::Bpl | Condition::Bmi => 128,
+        Condition::Bvc | Condition::Bvs => 64,
+        Condition::Bcc | Condition::Bcs => 1,
+        Condition::Bne | Condition::Beq => 2,
     }
 }
 
@@ -153,16 +156,10 @@ fn flag_of(t: Condition) -> u8
 fn wants(t: Condition) -> bool
     ensures { result ≡ sense_of t }
 {
-    match t {
-        Condition::Bpl => false,
-        Condition::Bmi => true,
-        Condition::Bvc => false,
-        Condition::Bvs => true,
-        Condition::Bcc => false,
-        Condition::Bcs => true,
-        Condition::Bne => false,
-        Condition::Beq => true,
-    }
+    matches!(
+        t,
+        Condition::Bmi | Condition::Bvs | Condition::Bcs | Condition::Beq
+    )
 }
 
 // When a branch is taken. A mask and a compare are one way for all eight; a match of eight tests is a jump more.
@@ -406,20 +403,20 @@ fn second_for(i: Instruction) -> Purpose
     ensures { result ≡ second_for (size_in 2 i) }
 {
     match i {
-        Instruction::Read(_, _) => Purpose::Operand,
-        Instruction::Store(_, _) => Purpose::Operand,
-        Instruction::Change(_, _) => Purpose::Operand,
-        Instruction::Accumulator(_) => Purpose::Wasted,
-        Instruction::Implied(_) => Purpose::Wasted,
-        Instruction::AtStack(_) => Purpose::Wasted,
-        Instruction::Branch(_, _) => Purpose::Operand,
-        Instruction::Jump(_, _) => Purpose::Operand,
-        Instruction::JumpIndirect(_, _) => Purpose::Operand,
-        Instruction::Jsr(_) => Purpose::Operand,
-        Instruction::Brk => Purpose::Wasted,
-        Instruction::Txs => Purpose::Wasted,
-        Instruction::Cli => Purpose::Wasted,
-        Instruction::Undefined => Purpose::Wasted,
+        Instruction::Read(_, _)
+        | Instruction::Store(_, _)
+        | Instruction::Change(_, _)
+        | Instruction::Branch(_, _)
+        | Instruction::Jump(_, _)
+        | Instruction::JumpIndirect(_, _)
+        | Instruction::Jsr(_) => Purpose::Operand,
+        Instruction::Accumulator(_)
+        | Instruction::Implied(_)
+        | Instruction::AtStack(_)
+        | Instruction::Brk
+        | Instruction::Txs
+        | Instruction::Cli
+        | Instruction::Undefined => Purpose::Wasted,
     }
 }
 

@@ -25,13 +25,11 @@ use rules::{Event, Numbers, Refusal};
 fn irq_event(lines: u8, i: bool) -> Event
     ensures { result ≡ (when irq_of lines && not i then Irq else Execute) }
 {
-    if lines / 4 % 2 == 1 {
-        if i {
-            return Event::Execute;
-        }
-        return Event::Irq;
+    if lines / 4 % 2 == 1 && !i {
+        Event::Irq
+    } else {
+        Event::Execute
     }
-    Event::Execute
 }
 
 // "First that applies: RES; NMI asserted with last level 0; IRQ with I = 0; else the instruction at PC."
@@ -133,7 +131,13 @@ fn execute(pins: u8, state: &mut [u8; 16], image: &mut [u8], list: &mut [u8; 56]
 }
 
 // What a step takes. Answers the accesses made, or 0 where it is an instruction whose opcode is undefined.
-fn take(event: Event, pins: u8, state: &mut [u8; 16], image: &mut [u8], list: &mut [u8; 56]) -> usize
+fn take(
+    event: Event,
+    pins: u8,
+    state: &mut [u8; 16],
+    image: &mut [u8],
+    list: &mut [u8; 56],
+) -> usize
     requires { Sized (length image.old) }
     ensures { (result ≤ 7) × ((s : State) → Begins s state.old pins (length image.old) →
         Taken event s image.old list.old result state.new image.new list.new) }

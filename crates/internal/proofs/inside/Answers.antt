@@ -1,3 +1,4 @@
+use mathlib.Core.Path.{refl}
 use Rattle.rules.specs.Record.{record_of}
 use Rattle.rules.specs.Operations.{inside}
 use Rattle.state.proofs.Registers.{holds, makes_to}
@@ -52,7 +53,7 @@ pub returns-in-Dex : goal.returns-in-Dex
 unfolding inside record_of
 returns-in-Dex c =
     λ s e. rw c.in-Dex.is
-    (rw (holds s e).x at (makes_to 2 c.one_less.ensures c.to-in-Dex.ensures s e))
+    (rw (holds s e).x at (makes_to 2 refl c.to-in-Dex.ensures s e))
 
 pub returns-in-Nop : goal.returns-in-Nop
 unfolding inside
@@ -62,7 +63,7 @@ pub returns-in-Dey : goal.returns-in-Dey
 unfolding inside record_of
 returns-in-Dey c =
     λ s e. rw c.in-Dey.is
-    (rw (holds s e).y at (makes_to 3 c.one_less-in-Dey.ensures c.to-in-Dey.ensures s e))
+    (rw (holds s e).y at (makes_to 3 refl c.to-in-Dey.ensures s e))
 
 pub returns-in-Tay : goal.returns-in-Tay
 unfolding inside record_of
@@ -73,10 +74,10 @@ pub returns-in-Iny : goal.returns-in-Iny
 unfolding inside record_of
 returns-in-Iny c =
     λ s e. rw c.in-Iny.is
-    (rw (holds s e).y at (makes_to 3 c.one_more.ensures c.to-in-Iny.ensures s e))
+    (rw (holds s e).y at (makes_to 3 refl c.to-in-Iny.ensures s e))
 
 pub returns-in-Inx : goal.returns-in-Inx
 unfolding inside record_of
 returns-in-Inx c =
     λ s e. rw c.in-Inx.is
-    (rw (holds s e).x at (makes_to 2 c.one_more-in-Inx.ensures c.to-in-Inx.ensures s e))
+    (rw (holds s e).x at (makes_to 2 refl c.to-in-Inx.ensures s e))
