@@ -5,7 +5,7 @@ use mathlib.Core.Path.{◌≡◌, refl}
 use mathlib.Core.Bool.{Bool, true}
 use lib.Bits.{and_le_l, or_lt, xor_lt}
 use Rattle.rules.specs.declared.Flags.{Flags}
-use Rattle.rules.specs.declared.Result.{Result}
+use Rattle.rules.specs.declared.Flagged.{Flagged}
 use Rattle.rules.specs.declared.Cpu.{Cpu}
 use Rattle.rules.specs.declared.Reading.{Reading}
 use Rattle.rules.specs.declared.Reading.TheVariants.{Ora, And, Eor, Adc, Lda, Cmp, Sbc, Ldx, Ldy, Cpx, Cpy, Bit}
@@ -37,7 +37,7 @@ on : (c : Cpu) (a x y : ℕ) (f : Flags) → Bytes c → a < 256 → x < 256 →
     On c (record { a = a; x = x; y = y; s = c.s; p = f; pc = c.pc })
 on c a x y f b ha hx hy i = record { pc = refl; stays = refl; bytes = record { a = ha; x = hx; y = hy; s = b.s }; masks = i }
 
-pub record Good (f : Flags) (r : Result) : Type 0 where
+pub record Good (f : Flags) (r : Flagged) : Type 0 where
   pub value : r.value < 256
   pub flag : f.i ≡ true → r.flags.i ≡ true
 

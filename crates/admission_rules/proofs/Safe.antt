@@ -10,8 +10,8 @@ use lib.Seq.{length-take-le}
 use Rattle.rules.specs.declared.Bus.{Bus}
 use Rattle.rules.specs.declared.Cpu.{Cpu}
 use Rattle.rules.specs.declared.State.{State}
-use Rattle.rules.specs.declared.StepAnswer.{StepAnswer}
-use Rattle.rules.specs.declared.StepAnswer.TheVariants.{Stepped}
+use Rattle.std.specs.Prelude.{Result, Ok}
+use Rattle.rules.specs.declared.Refusal.{Refusal}
 use Rattle.rules.specs.Basics.{at}
 use Rattle.rules.specs.Cycles.{execution, Ran}
 use Rattle.rules.specs.Opcodes.{decode, is_defined}
@@ -80,9 +80,9 @@ Room script s = 8 * s.answer.listed + 56 * (length script / 2) ≤ length s.acce
 
 module _ (m₀ : List ℕ) (c : ℕ) (map : List ℕ) (ad : Admitted m₀ c map) where
   -- what a step o with this effect leaves, from S on and with k bytes on the stack
-  record After (e : Effect) (s : ℕ) (k : Stacked) (o : Outcome StepAnswer (List ℕ)) : Type 0 where
+  record After (e : Effect) (s : ℕ) (k : Stacked) (o : Outcome (Result ℕ Refusal) (List ℕ)) : Type 0 where
     accesses : ℕ
-    answered : o.answer ≡ Stepped accesses
+    answered : o.answer ≡ Ok accesses
     only : stack_writes accesses o.accesses ≡ pushes_of e s
     ready : Ready m₀ c map ad (cpu_in o.state) o.image (stacked_after e k)
 
@@ -107,7 +107,7 @@ module _ (m₀ : List ℕ) (c : ℕ) (map : List ℕ) (ad : Admitted m₀ c map)
     abbrev e : Event
     e = event_in lines pins s
 
-    abbrev o : Outcome StepAnswer (List ℕ)
+    abbrev o : Outcome (Result ℕ Refusal) (List ℕ)
     o = step_at images lines pins s
 
     abbrev bus : Bus
@@ -188,7 +188,7 @@ module _ (m₀ : List ℕ) (c : ℕ) (map : List ℕ) (ad : Admitted m₀ c map)
             },
             on next (stacked_after (effect lines pins s) k)
                 (record { size = d.record_size; formed = d.record_formed; part = d.part ∙ six.part; pages = d.pages ∙ six.pages })
-                a.ready later (ap (λ (x : StepAnswer). continued (play images script) s o x) a.answered),
+                a.ready later (ap (λ (x : Result ℕ Refusal). continued (play images script) s o x) a.answered),
           )
 
   -- a script that is about to be played from s: its first step goes well, or it has none

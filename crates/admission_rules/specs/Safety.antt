@@ -8,13 +8,12 @@
 --   every instruction run is one the map names [Fine.named],
 --   only pushes write the stack page [Fine.only],
 --   and the bytes on the stack since the last reset or stack-pointer load [Stacked] stay between 0 and 256 [Fine.least, Fine.most].
-use Rattle.std.specs.Prelude.{ℕ, zero, suc, ◌+◌, ◌*◌, ◌/◌, ◌<◌, ◌≤◌, ◌≡◌, true, false, ◌&&◌, List, [], ◌∷◌, eqb, length, drop}
+use Rattle.std.specs.Prelude.{ℕ, zero, suc, ◌+◌, ◌*◌, ◌/◌, ◌<◌, ◌≤◌, ◌≡◌, true, false, ◌&&◌, List, [], ◌∷◌, eqb, length, drop, Ok}
 use Rattle.rules.specs.declared.State.{State}
 use Rattle.rules.specs.declared.Stacking.TheVariants.{Php, Plp, Pha, Pla, Rts, Rti}
 use Rattle.rules.specs.declared.Instruction.{Instruction}
 use Rattle.rules.specs.declared.Instruction.TheVariants.{Read, Store, Change, Accumulator, Implied, AtStack, Branch, Jump, JumpIndirect}
 use Rattle.rules.specs.declared.Instruction.TheVariants.{Jsr, Brk, Txs, Cli, Undefined}
-use Rattle.rules.specs.declared.StepAnswer.TheVariants.{Stepped}
 use Rattle.rules.specs.declared.Verdict.TheVariants.{Accepted}
 use Rattle.rules.specs.Basics.{when◌then◌else◌, at, address, sum16}
 use Rattle.rules.specs.Opcodes.{decode, instruction_of}
@@ -135,7 +134,7 @@ module _ (lines pins : ℕ) (s : Outcome Tally (List ℕ)) where
   pub record Fine (map : List ℕ) (k : Stacked) : Type 0 where
     -- it does not refuse
     pub accesses : ℕ
-    pub answered : (step_at images lines pins s).answer ≡ Stepped accesses
+    pub answered : (step_at images lines pins s).answer ≡ Ok accesses
     -- the map names the instruction that it runs
     pub named : event_in ≡ Execute → (i : ℕ) × (i < marks_in map) × ((mark_at map i).address ≡ (state_in pins s).cpu.pc)
     -- it writes the stack page only by its pushes

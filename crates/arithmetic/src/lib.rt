@@ -5,30 +5,30 @@
 ghost use Rattle.std.specs.Prelude.{◌≡◌};
 ghost use Rattle.rules.specs.Arithmetic.{shifted, by_one, changed};
 
-use rules::{Changing, Flags, Result};
+use rules::{Changing, Flagged, Flags};
 
 // "Shifts set N, Z, C": C is the bit that fell out.
-fn shifted(v: u8, out: bool, f: Flags) -> Result
+fn shifted(v: u8, out: bool, f: Flags) -> Flagged
     ensures { result ≡ shifted v out f }
 {
-    Result {
+    Flagged {
         value: v,
         flags: flags::nzc(v, out, f),
     }
 }
 
 // "steps by one set N, Z"
-fn by_one(v: u8, f: Flags) -> Result
+fn by_one(v: u8, f: Flags) -> Flagged
     ensures { result ≡ by_one v f }
 {
-    Result {
+    Flagged {
         value: v,
         flags: flags::nzc(v, f.c, f),
     }
 }
 
 // ASL, ROL, LSR, ROR, DEC, INC of a byte; a rotation takes C in.
-pub fn changed(o: Changing, v: u8, f: Flags) -> Result
+pub fn changed(o: Changing, v: u8, f: Flags) -> Flagged
     ensures { result ≡ changed o v f }
 {
     match o {

@@ -8,8 +8,6 @@ ghost use Rattle.rules.specs.Bus.{images};
 ghost use Rattle.rules.specs.Step.{step, left, worded};
 ghost use Rattle.rules.specs.Run.{run_of};
 
-use checks::Checked;
-
 // "Step: 1 to 6 in order"
 pub fn wankitare_step(
     state: &mut [u8],
@@ -21,17 +19,13 @@ pub fn wankitare_step(
     ensures { left result state.new image.new accesses.new
         ≡ worded step_word (step images state.old image.old lines pins accesses.old) }
 {
-    match checks::fit(state, image) {
-        Checked::Fit => {
-            if lines == 0 {
-                if pins == 0 {
-                    return step::quiet(state, image, accesses);
-                }
-            }
-            step::step(state, image, lines, pins, accesses)
-        }
-        Checked::Refused(e) => words::refusal_word(e),
+    if let Err(e) = checks::fit(state, image) {
+        return words::refusal_word(e);
     }
+    if lines == 0 && pins == 0 {
+        return step::quiet(state, image, accesses);
+    }
+    step::step(state, image, lines, pins, accesses)
 }
 
 pub fn wankitare_run(

@@ -1,15 +1,14 @@
 -- What step and run test first, and what fits.
-use Rattle.std.specs.Prelude.{ℕ, ◌≡◌, true, List, length}
+use Rattle.std.specs.Prelude.{ℕ, ◌≡◌, true, ⊤, List, length, Result, Ok, Err}
+use Rattle.rules.specs.declared.Refusal.{Refusal}
 use Rattle.rules.specs.Basics.{at}
 use Rattle.rules.specs.Answers.{tested}
 use Rattle.rules.specs.Bus.{images}
 use Rattle.rules.specs.Record.{well_formed}
 use Rattle.rules.specs.Step.{image_fits, record_tests}
-use Rattle.checks.specs.declared.Checked.{Checked}
-use Rattle.checks.specs.declared.Checked.TheVariants.{Fit, Refused}
 
-abbrev pub fit_of : List ℕ → List ℕ → Checked
-fit_of r m = tested (record_tests images r m) Refused Fit
+abbrev pub fit_of : List ℕ → List ℕ → Result ⊤ Refusal
+fit_of r m = tested (record_tests images r m) Err (Ok tt)
 
 -- a record and an image that passed
 pub record Fits (r m : List ℕ) : Type 0 where

@@ -8,62 +8,32 @@ ghost use Rattle.checks.specs.Checks.{fit_of};
 
 use rules::Refusal;
 
-// Whether a record and an image fit, or why not.
-#[derive(Clone, Copy)]
-pub enum Checked {
-    Fit,
-    Refused(Refusal),
-}
-
 // "The image is 65,536 bytes; for the 6509, k banks of that size, k = 1, 2, 4, 8 or 16"
 fn image_fits(part: u8, size: usize) -> bool
     ensures { result ≡ image_fits part size }
 {
-    if size == 65536 {
-        return true;
-    }
-    if part == 9 {
-        if size == 131072 {
-            return true;
-        }
-        if size == 262144 {
-            return true;
-        }
-        if size == 524288 {
-            return true;
-        }
-        if size == 1048576 {
-            return true;
-        }
-    }
-    false
+    size == 65536 || part == 9 && matches!(size, 131072 | 262144 | 524288 | 1048576)
 }
 
 // "line bits 3 to 7 set; NMI on 6508; pins not 0 off the 6508"
 pub fn lines_fit(part: u8, lines: u8, pins: u8) -> bool
     ensures { result ≡ lines_fit part lines pins }
 {
-    if lines < 8 {
-        if part == 8 {
-            return lines / 2 % 2 != 1;
-        }
-        return pins == 0;
-    }
-    false
+    lines < 8 && !(part == 8 && lines / 2 % 2 == 1) && (part == 8 || pins == 0)
 }
 
 // What step and run refuse first: 1, 2, 3 in order.
-pub fn fit(state: &[u8], image: &[u8]) -> Checked
+pub fn fit(state: &[u8], image: &[u8]) -> Result<(), Refusal>
     ensures { result ≡ fit_of state.now image.now }
 {
     if state.len() != 16 {
-        return Checked::Refused(Refusal::RecordLength);
+        return Err(Refusal::RecordLength);
     }
     if !formed::well_formed(state) {
-        return Checked::Refused(Refusal::Malformed);
+        return Err(Refusal::Malformed);
     }
     if !image_fits(state[0], image.len()) {
-        return Checked::Refused(Refusal::ImageLength);
+        return Err(Refusal::ImageLength);
     }
-    Checked::Fit
+    Ok(())
 }

@@ -8,10 +8,11 @@ use borrow.Author.Tests.{eq-eqb, ne_eqb, ltb-true, ltb-false}
 use lib.Dec.{eqb, ltb}
 use lib.ListN.{length, set, length-set}
 use lib.Seq.{get_or-set_same, get_or-set_other, set_out}
+use Rattle.std.specs.Prelude.{Result}
 use Rattle.rules.specs.declared.Bus.{Bus}
 use Rattle.rules.specs.declared.Cpu.{Cpu}
 use Rattle.rules.specs.declared.State.{State}
-use Rattle.rules.specs.declared.StepAnswer.{StepAnswer}
+use Rattle.rules.specs.declared.Refusal.{Refusal}
 use Rattle.rules.specs.Basics.{when◌then◌else◌, at}
 use Rattle.rules.specs.Cycles.{Bank, execution, Ran}
 use Rattle.rules.specs.Opcodes.{decode, is_defined}
@@ -81,7 +82,7 @@ module _ (m : List ℕ) (f : Chart) (h : Holds m f) where
   can_same Irq u = refl
   can_same Execute u = ap (λ (op : ℕ). is_defined (decode op)) (opcode_same u)
 
-pub record SameStep (x : Outcome StepAnswer (List ℕ)) (y : Outcome StepAnswer Chart) : Type 0 where
+pub record SameStep (x : Outcome (Result ℕ Refusal) (List ℕ)) (y : Outcome (Result ℕ Refusal) Chart) : Type 0 where
   pub answer : x.answer ≡ y.answer
   pub state : x.state ≡ y.state
   pub image : Holds x.image y.image

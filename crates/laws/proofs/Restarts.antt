@@ -10,11 +10,10 @@ use mathlib.Core.List.{List, [], ◌∷◌, ◌++◌, Memᴰ}
 use borrow.Author.Tests.{le-leb, lt-leb, leb-true}
 use lib.ListN.{length, take, drop, length-append, length-take, length-drop}
 use lib.Seq.{length-take-le, drop_at, drop-nil, take_all, take_at, take-nil, take-take}
+use Rattle.std.specs.Prelude.{Result, Ok, Err}
+use Rattle.rules.specs.declared.Refusal.{Refusal}
 use Rattle.rules.specs.declared.Refusal.TheVariants.{Malformed, FileLength}
-use Rattle.rules.specs.declared.RestartAnswer.{RestartAnswer}
-use Rattle.rules.specs.declared.RestartAnswer.TheVariants.{Found, NotFound}
-use Rattle.rules.specs.declared.AppendAnswer.{AppendAnswer}
-use Rattle.rules.specs.declared.AppendAnswer.TheVariants.{At, Full}
+use Rattle.rules.specs.declared.Found.{Found}
 use Rattle.rules.specs.Basics.{when◌then◌else◌}
 use Rattle.rules.specs.Record.{well_formed}
 use Rattle.rules.specs.Restart.{whole_of, last_of, record_at, standing, restart_tests, restart, append_tests, append_at, Grown, empty, done}
@@ -22,19 +21,19 @@ use Rattle.rules.specs.Restart.{cut, lost}
 use Rattle.laws.proofs.Tests.{tested_case}
 
 -- where an append goes, and that it fits
-append_place : (n p : ℕ) → append_at n ≡ At p → (p ≡ whole_of n) × (p + 16 ≤ 65536)
+append_place : (n p : ℕ) → append_at n ≡ Ok p → (p ≡ whole_of n) × (p + 16 ≤ 65536)
 unfolding append_at
 append_place n p =
-    tested_case (λ (a : AppendAnswer). a ≡ At p → (p ≡ whole_of n) × (p + 16 ≤ 65536)) (append_tests n) Full _
+    tested_case (λ (a : Result ℕ Refusal). a ≡ Ok p → (p ≡ whole_of n) × (p + 16 ≤ 65536)) (append_tests n) Err _
     (λ d h. let z : ◌≡◌ {A = ℕ} 0 1 = cc in absurd (omega arith))
     (λ hs h. let e : p ≡ whole_of n = cc in (e, omega (arith, leb-true)))
 
 -- where the reader finds a record, and the tail behind it
-pub found_place : (file : List ℕ) (p t : ℕ) → restart file ≡ Found p t → (p ≡ last_of (length file)) × (t ≡ length file % 16)
+pub found_place : (file : List ℕ) (f : Found) → restart file ≡ Ok f → (f.at ≡ last_of (length file)) × (f.tail ≡ length file % 16)
 unfolding restart
-found_place file p t =
-    tested_case (λ (a : RestartAnswer). a ≡ Found p t → (p ≡ last_of (length file)) × (t ≡ length file % 16)) (restart_tests file)
-    NotFound _
+found_place file f =
+    tested_case (λ (a : Result Found Refusal). a ≡ Ok f → (f.at ≡ last_of (length file)) × (f.tail ≡ length file % 16))
+    (restart_tests file) Err _
     (λ d h. let z : ◌≡◌ {A = ℕ} 0 1 = cc in absurd (omega arith))
     (λ hs h. (cc, cc))
 
@@ -123,9 +122,9 @@ grown_whole (cut {rs} {file} t p g h n) =
 grown_whole (lost {rs} {file} k g) = whole_lost rs file (grown_whole g) k
 
 -- what the reader is to answer where these records stand, the last one first
-abbrev pub answer_of : List (List ℕ) → ℕ → RestartAnswer
-answer_of [] tail = NotFound FileLength
-answer_of (r ∷ rs) tail = when well_formed r then Found (16 * length rs) tail else NotFound Malformed
+abbrev pub answer_of : List (List ℕ) → ℕ → Result Found Refusal
+answer_of [] tail = Err FileLength
+answer_of (r ∷ rs) tail = when well_formed r then Ok (record { at = 16 * length rs; tail = tail }) else Err Malformed
 
 whole_found : (rs : List (List ℕ)) (file : List ℕ) → Whole rs file → restart file ≡ answer_of rs (length file % 16)
 unfolding restart
@@ -165,17 +164,21 @@ standing_written (cut t p g _ _) h = standing_written g h
 standing_written (lost {rs} k g) h = standing_written g (of_older (length rs - k / 16) rs h)
 
 -- a place is answered where the last record stands
-found_stands : (rs : List (List ℕ)) (file : List ℕ) (p t u : ℕ) → Stand rs file → answer_of rs u ≡ Found p t → Memᴰ (record_at file p) rs
-found_stands [] file p t u s h = let z : ◌≡◌ {A = ℕ} 0 1 = cc in absurd (omega arith)
-found_stands (r ∷ rs) file p t u s h = go (well_formed r) h
+found_stands : (rs : List (List ℕ)) (file : List ℕ) (f : Found) (u : ℕ) → Stand rs file → answer_of rs u ≡ Ok f →
+    Memᴰ (record_at file f.at) rs
+found_stands [] file f u s h = let z : ◌≡◌ {A = ℕ} 0 1 = cc in absurd (omega arith)
+found_stands (r ∷ rs) file f u s h = go (well_formed r) h
   where
-    go : (b : Bool) → (when b then Found (16 * length rs) u else NotFound Malformed) ≡ Found p t → Memᴰ (record_at file p) (r ∷ rs)
-    go true e = let q : p ≡ 16 * length rs = cc in Memᴰ.head (ap (record_at file) q ∙ s.0)
+    last : Found
+    last = record { at = 16 * length rs; tail = u }
+
+    go : (b : Bool) → (when b then Ok last else Err Malformed) ≡ Ok f → Memᴰ (record_at file f.at) (r ∷ rs)
+    go true e = let q : f.at ≡ 16 * length rs = cc in Memᴰ.head (ap (record_at file) q ∙ s.0)
     go false e = let z : ◌≡◌ {A = ℕ} 0 1 = cc in absurd (omega arith)
 
 -- power dips in a row, the loss of the file's end to any prefix included, never yield a record that was not written whole
-pub found_written : {rs : List (List ℕ)} {file : List ℕ} (g : Grown rs file) (p t : ℕ) → restart file ≡ Found p t →
-    Written (record_at file p) g
-found_written {rs} {file} g p t h =
-    let f = finds_last g in
-    standing_written g (found_stands rs file p t (length file % 16) f.bytes (sym f.answer ∙ h))
+pub found_written : {rs : List (List ℕ)} {file : List ℕ} (g : Grown rs file) (f : Found) → restart file ≡ Ok f →
+    Written (record_at file f.at) g
+found_written {rs} {file} g f h =
+    let l = finds_last g in
+    standing_written g (found_stands rs file f (length file % 16) l.bytes (sym l.answer ∙ h))

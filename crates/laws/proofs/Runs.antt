@@ -6,9 +6,9 @@ use mathlib.Core.Bool.{true}
 use mathlib.Core.List.{List, [], ◌∷◌, ◌++◌}
 use lib.ListN.{length, take, drop, length-append, length-drop}
 use lib.Seq.{length-take-le, take-take, take_at, take-append-add}
-use Rattle.rules.specs.declared.StepAnswer.{StepAnswer}
-use Rattle.rules.specs.declared.StepAnswer.TheVariants.{Stepped, Refused}
-use Rattle.rules.specs.declared.RunAnswer.{RunAnswer}
+use Rattle.std.specs.Prelude.{Result, Ok, Err}
+use Rattle.rules.specs.declared.Refusal.{Refusal}
+use Rattle.rules.specs.Answers.{RunAnswer}
 use Rattle.rules.specs.Bus.{Memory, list_of}
 use Rattle.rules.specs.Record.{well_formed}
 use Rattle.rules.specs.Step.{Outcome}
@@ -33,11 +33,11 @@ module _ {M : Type 0} (memory : Memory M) where
       Kept s (record { answer = a; state = s.state; image = s.image; accesses = s.accesses })
   ended_kept s a q = record { size = refl; listed = refl; record_size = q.record_size; record_formed = q.record_formed }
 
-  module _ (lines pins : ℕ) (s : Outcome Tally M) (n : ℕ) (q : Sound s) (e : (step_at memory lines pins s).answer ≡ Stepped n) where
+  module _ (lines pins : ℕ) (s : Outcome Tally M) (n : ℕ) (q : Sound s) (e : (step_at memory lines pins s).answer ≡ Ok n) where
     abbrev i : ℕ
     i = 8 * s.answer.listed
 
-    abbrev o : Outcome StepAnswer M
+    abbrev o : Outcome (Result ℕ Refusal) M
     o = step_at memory lines pins s
 
     done : Done memory s.state s.image lines pins (drop i s.accesses) o n
@@ -81,15 +81,16 @@ module _ {M : Type 0} (memory : Memory M) where
   play_kept (lines ∷ []) s q = ended_kept s _ q
   play_kept (lines ∷ pins ∷ script) s q = go (step_at memory lines pins s).answer refl (λ t. play_kept script t)
     where
-      go : (a : StepAnswer) → (step_at memory lines pins s).answer ≡ a → ((t : Outcome Tally M) → Sound t → Kept t (play memory script t)) →
+      go : (a : Result ℕ Refusal) → (step_at memory lines pins s).answer ≡ a →
+          ((t : Outcome Tally M) → Sound t → Kept t (play memory script t)) →
           Kept s (continued (play memory script) s (step_at memory lines pins s) a)
-      go (Stepped n) e rest = further_kept lines pins s n q e (play memory script (further s (step_at memory lines pins s) n))
+      go (Ok n) e rest = further_kept lines pins s n q e (play memory script (further s (step_at memory lines pins s) n))
           (rest _ (further_sound lines pins s n q e))
-      go (Refused d) e rest = ended_kept s _ q
+      go (Err d) e rest = ended_kept s _ q
 
   -- what a step listed stands there when all later steps are done
   module _ (lines pins : ℕ) (script : List ℕ) (s : Outcome Tally M) (n : ℕ) (q : Sound s)
-      (e : (step_at memory lines pins s).answer ≡ Stepped n) where
+      (e : (step_at memory lines pins s).answer ≡ Ok n) where
     abbrev before : List ℕ
     before = take (8 * s.answer.listed) s.accesses
 
@@ -101,6 +102,6 @@ module _ {M : Type 0} (memory : Memory M) where
         let k = play_kept script (further s o n) (further_sound lines pins s n q e) in
         let d = length-take-le (8 * s.answer.listed) s.accesses q.within in
         let size : 8 * (s.answer.listed + n) ≡ length before + 8 * n = omega arith in
-        ap (λ (a : StepAnswer). take (8 * (s.answer.listed + n)) (continued (play memory script) s o a).accesses) e ∙ k.listed
+        ap (λ (a : Result ℕ Refusal). take (8 * (s.answer.listed + n)) (continued (play memory script) s o a).accesses) e ∙ k.listed
         ∙ ap (λ (j : ℕ). take j (before ++ o.accesses)) size ∙ take-append-add before o.accesses (8 * n)
         ∙ ap (λ (l : List ℕ). before ++ l) (done lines pins s n q e).listed

@@ -7,10 +7,9 @@ use mathlib.Core.List.{List, [], ◌∷◌}
 use borrow.Author.Tests.{leb-true}
 use lib.ListN.{length, take, drop, length-append, length-drop}
 use lib.Seq.{take_at, drop_at}
+use Rattle.std.specs.Prelude.{Result, Ok, Err}
 use Rattle.rules.specs.declared.State.{State}
 use Rattle.rules.specs.declared.Refusal.{Refusal}
-use Rattle.rules.specs.declared.StepAnswer.{StepAnswer}
-use Rattle.rules.specs.declared.StepAnswer.TheVariants.{Stepped, Refused}
 use Rattle.rules.specs.Basics.{at}
 use Rattle.rules.specs.Cycles.{Access}
 use Rattle.rules.specs.declared.Event.{Event}
@@ -45,7 +44,7 @@ module _ {M : Type 0} (memory : Memory M) (r : List ℕ) (m : M) (lines pins : �
   trace = (ran_of memory e u m).list
 
   -- what is left by a step that answered n
-  pub record Done (o : Outcome StepAnswer M) (n : ℕ) : Type 0 where
+  pub record Done (o : Outcome (Result ℕ Refusal) M) (n : ℕ) : Type 0 where
     -- "answers its number of accesses": 2 to 7
     pub count : n ≡ length trace
     pub least : 2 ≤ n
@@ -65,10 +64,10 @@ module _ {M : Type 0} (memory : Memory M) (r : List ℕ) (m : M) (lines pins : �
     -- document 02, "What each access was for"; S is a byte in every record that C can hand over
     pub purposes : at r 4 < 256 → Tells e u.cpu trace
 
-  pub record Lawful (o : Outcome StepAnswer M) : Type 0 where
+  pub record Lawful (o : Outcome (Result ℕ Refusal) M) : Type 0 where
     -- "no byte moves"
-    pub stays : (d : Refusal) → o.answer ≡ Refused d → o ≡ record { answer = Refused d; state = r; image = m; accesses = buffer }
-    pub moves : (n : ℕ) → o.answer ≡ Stepped n → Done o n
+    pub stays : (d : Refusal) → o.answer ≡ Err d → o ≡ record { answer = Err d; state = r; image = m; accesses = buffer }
+    pub moves : (n : ℕ) → o.answer ≡ Ok n → Done o n
 
   lawful_refused : (d : Refusal) → Lawful (refused r m buffer d)
   lawful_refused d =

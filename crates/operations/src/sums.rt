@@ -4,7 +4,7 @@ ghost use Rattle.std.specs.Prelude.{◌≡◌, ◌+◌, ◌-◌, ◌<◌, ◌≤
 ghost use Rattle.rules.specs.Arithmetic.{signed, leaves, binary_adc, high, low_sum, high_sum, decimal_adc, adc, low_difference};
 ghost use Rattle.rules.specs.Arithmetic.{high_difference, sbc};
 
-use rules::{Flags, Result};
+use rules::{Flagged, Flags};
 
 // A byte read as signed, plus 128: never below zero.
 fn signed(b: u8) -> u16
@@ -29,13 +29,13 @@ fn overflows(a: u8, m: u8, l: u16) -> bool
 }
 
 // "ADC and SBC set N, V, Z, C"
-fn binary(a: u8, m: u8, f: Flags) -> Result
+fn binary(a: u8, m: u8, f: Flags) -> Flagged
     ensures { result ≡ binary_adc a m f }
 {
     let c = flags::bit(f.c) as u16;
     let t = a as u16 + m as u16 + c;
     let value = (t % 256) as u8;
-    Result {
+    Flagged {
         value: value,
         flags: Flags {
             n: 128 <= value,
@@ -72,7 +72,7 @@ fn high_sum(t: u16) -> u16
 }
 
 // Decimal ADC: N and V are taken before 96 is added, C after; "Z is the binary sum's."
-fn decimal(a: u8, m: u8, f: Flags) -> Result
+fn decimal(a: u8, m: u8, f: Flags) -> Flagged
     ensures { result ≡ decimal_adc a m f }
 {
     let c = flags::bit(f.c) as u16;
@@ -81,7 +81,7 @@ fn decimal(a: u8, m: u8, f: Flags) -> Result
     let high_m = high(m);
     let t = high_a as u16 + high_m as u16 + l;
     let sum = high_sum(t);
-    Result {
+    Flagged {
         value: (sum % 256) as u8,
         flags: Flags {
             n: t / 128 % 2 == 1,
@@ -94,7 +94,7 @@ fn decimal(a: u8, m: u8, f: Flags) -> Result
 }
 
 // In decimal mode the digits are added, else the bytes.
-pub(crate) fn adc(a: u8, m: u8, f: Flags) -> Result
+pub(crate) fn adc(a: u8, m: u8, f: Flags) -> Flagged
     ensures { result ≡ adc a m f }
 {
     if f.d {
@@ -131,13 +131,13 @@ fn difference(a: u8, m: u8, c: u16) -> u8
 }
 
 // "SBC subtracts 1 - C more": a - m - (1 - C) is a + (255 - m) + C less 256. In decimal "All flags are the binary ones."
-pub(crate) fn sbc(a: u8, m: u8, f: Flags) -> Result
+pub(crate) fn sbc(a: u8, m: u8, f: Flags) -> Flagged
     ensures { result ≡ sbc a m f }
 {
     let plain = binary(a, 255 - m, f);
     if f.d {
         let flags = plain.flags;
-        return Result {
+        return Flagged {
             value: difference(a, m, flags::bit(f.c) as u16),
             flags: flags,
         };

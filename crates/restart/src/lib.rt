@@ -6,49 +6,49 @@ ghost use Rattle.std.specs.Prelude.{◌≡◌};
 ghost use Rattle.rules.specs.Answers.{restart_word, append_word};
 ghost use Rattle.rules.specs.Restart.{restart, append_at};
 
-use rules::{AppendAnswer, Numbers, Refusal, RestartAnswer};
+use rules::{Found, Numbers, Refusal};
 
 // "Restart: 8, then 2 for the last whole record"
-fn restart(file: &[u8]) -> RestartAnswer
+#[tactic(auto, unfolding(rules::specs::Restart::restart))]
+fn restart(file: &[u8]) -> Result<Found, Refusal>
     ensures { result ≡ restart file.now }
 {
     let size = file.len();
-    if size < 16 {
-        return RestartAnswer::NotFound(Refusal::FileLength);
-    }
-    if size > 65536 {
-        return RestartAnswer::NotFound(Refusal::FileLength);
+    if size < 16 || size > 65536 {
+        return Err(Refusal::FileLength);
     }
     let at = size / 16 * 16 - 16;
-    if formed::well_formed(&file[at..at + 16]) {
-        return RestartAnswer::Found {
-            at: at as u16,
-            tail: (size % 16) as u8,
-        };
+    if !formed::well_formed(&file[at..at + 16]) {
+        return Err(Refusal::Malformed);
     }
-    RestartAnswer::NotFound(Refusal::Malformed)
+    Ok(Found {
+        at: at as u16,
+        tail: (size % 16) as u8,
+    })
 }
 
 // "An append drops a tail first and never takes the file past 65,536 bytes."
-fn append_at(size: u64) -> AppendAnswer
+#[tactic(auto, unfolding(rules::specs::Restart::append_at))]
+fn append_at(size: u64) -> Result<u16, Refusal>
     ensures { result ≡ append_at size }
 {
     if size < 65536 {
-        return AppendAnswer::At((size / 16 * 16) as u16);
+        Ok((size / 16 * 16) as u16)
+    } else {
+        Err(Refusal::FileLength)
     }
-    AppendAnswer::Full(Refusal::FileLength)
 }
 
 pub fn wankitare_restart(file: &[u8]) -> u64
     ensures { result ≡ restart_word (restart file.now) }
 {
     match restart(file) {
-        RestartAnswer::Found { at, tail } => words::packed(Numbers {
+        Ok(Found { at, tail }) => words::packed(Numbers {
             number: 0,
             small: tail,
             large: at,
         }),
-        RestartAnswer::NotFound(e) => words::refusal_word(e),
+        Err(e) => words::refusal_word(e),
     }
 }
 
@@ -56,11 +56,11 @@ pub fn wankitare_append_at(file_len: u64) -> u64
     ensures { result ≡ append_word (append_at file_len) }
 {
     match append_at(file_len) {
-        AppendAnswer::At(place) => words::packed(Numbers {
+        Ok(place) => words::packed(Numbers {
             number: 0,
             small: 0,
             large: place,
         }),
-        AppendAnswer::Full(e) => words::refusal_word(e),
+        Err(full) => words::refusal_word(full),
     }
 }

@@ -5,7 +5,8 @@ use mathlib.Core.Bool.{Bool, ◌&&◌}
 use mathlib.Core.List.{List, [], ◌∷◌, ◌++◌, map}
 use lib.Dec.{eqb}
 use lib.ListN.{take, drop, set, replicate}
-use Rattle.rules.specs.declared.StepAnswer.{StepAnswer}
+use Rattle.std.specs.Prelude.{Result}
+use Rattle.rules.specs.declared.Refusal.{Refusal}
 use Rattle.rules.specs.Basics.{at}
 use Rattle.rules.specs.Bus.{Chart, charts}
 use Rattle.rules.specs.Answers.{step_word, run_words, restart_word, append_word}
@@ -17,11 +18,11 @@ use Rattle.rules.proofs.Examples.{same, failing, zeros, ◌from◌holds◌, stat
 use Rattle.rules.proofs.Examples.{keeps, is_for}
 
 -- PC after a step
-abbrev pc_is : Outcome StepAnswer Chart → ℕ → ℕ → Bool
+abbrev pc_is : Outcome (Result ℕ Refusal) Chart → ℕ → ℕ → Bool
 pc_is o low high = same (take 2 (drop 6 o.state)) (low ∷ high ∷ [])
 
 -- X and Y after a step
-abbrev xy_are : Outcome StepAnswer Chart → ℕ → ℕ → Bool
+abbrev xy_are : Outcome (Result ℕ Refusal) Chart → ℕ → ℕ → Bool
 xy_are o x y = same (take 2 (drop 2 o.state)) (x ∷ y ∷ [])
 
 -- JMP (a) on each part, in 5 cycles, by a pointer whose bytes are at these places

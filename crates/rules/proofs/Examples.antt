@@ -8,7 +8,8 @@ use mathlib.Core.Bool.{Bool, true, false, ◌&&◌}
 use mathlib.Core.List.{List, [], ◌∷◌}
 use lib.Dec.{eqb}
 use lib.ListN.{take, drop, set, replicate}
-use Rattle.rules.specs.declared.StepAnswer.{StepAnswer}
+use Rattle.std.specs.Prelude.{Result}
+use Rattle.rules.specs.declared.Refusal.{Refusal}
 use Rattle.rules.specs.Basics.{when◌then◌else◌, at}
 use Rattle.rules.specs.Bus.{Chart, poked, charts}
 use Rattle.rules.specs.Answers.{step_word}
@@ -48,40 +49,40 @@ abbrev pub registers : ℕ → ℕ → List ℕ → List ℕ
 registers first second r = set (set r 8 first) 9 second
 
 -- a step with room for one; with no line asserted; of the instruction at 8000 of a 6502
-abbrev pub tried : List ℕ → Chart → ℕ → ℕ → Outcome StepAnswer Chart
+abbrev pub tried : List ℕ → Chart → ℕ → ℕ → Outcome (Result ℕ Refusal) Chart
 tried r m lines pins = step charts r m lines pins (replicate 56 0)
 
-abbrev pub runs : List ℕ → Chart → Outcome StepAnswer Chart
+abbrev pub runs : List ℕ → Chart → Outcome (Result ℕ Refusal) Chart
 runs r m = tried r m 0 0
 
-abbrev pub on : ℕ → ℕ → ℕ → ℕ → List ℕ → Outcome StepAnswer Chart
+abbrev pub on : ℕ → ℕ → ℕ → ℕ → List ℕ → Outcome (Result ℕ Refusal) Chart
 on a x s p code = runs (state 2 a x s p 0x8000) (zeros 1 from 0x8000 holds code)
 
 -- it answered n accesses, and results A, S and P so
-abbrev pub results : Outcome StepAnswer Chart → ℕ → ℕ → ℕ → ℕ → Bool
+abbrev pub results : Outcome (Result ℕ Refusal) Chart → ℕ → ℕ → ℕ → ℕ → Bool
 results o n a s p = same (step_word o.answer ∷ at o.state 1 ∷ at o.state 4 ∷ at o.state 5 ∷ [])
     (256 * n ∷ a ∷ s ∷ p ∷ [])
 
 -- its access k, counted from 0, was a read or a write of v at p, with this bank selected
-abbrev pub accessed : ℕ → Outcome StepAnswer Chart → ℕ → ℕ → ℕ → ℕ → Bool
+abbrev pub accessed : ℕ → Outcome (Result ℕ Refusal) Chart → ℕ → ℕ → ℕ → ℕ → Bool
 accessed kind o k p bank v = same (take 5 (drop (8 * k) o.accesses)) (p % 256 ∷ p / 256 ∷ bank ∷ v ∷ kind ∷ [])
 
-abbrev pub reads : Outcome StepAnswer Chart → ℕ → ℕ → ℕ → ℕ → Bool
+abbrev pub reads : Outcome (Result ℕ Refusal) Chart → ℕ → ℕ → ℕ → ℕ → Bool
 reads = accessed 0
 
-abbrev pub writes : Outcome StepAnswer Chart → ℕ → ℕ → ℕ → ℕ → Bool
+abbrev pub writes : Outcome (Result ℕ Refusal) Chart → ℕ → ℕ → ℕ → ℕ → Bool
 writes = accessed 1
 
 -- from access k on, its accesses were for these purposes, and there were no more; bytes 6 and 7 of each are zero
-abbrev pub purposed : ℕ → Outcome StepAnswer Chart → List ℕ → Bool
+abbrev pub purposed : ℕ → Outcome (Result ℕ Refusal) Chart → List ℕ → Bool
 purposed k o [] = eqb (step_word o.answer) (256 * k)
 purposed k o (u ∷ us) = same (take 3 (drop (8 * k + 5) o.accesses)) (u ∷ 0 ∷ 0 ∷ []) && purposed (suc k) o us
 
-abbrev pub is_for : Outcome StepAnswer Chart → List ℕ → Bool
+abbrev pub is_for : Outcome (Result ℕ Refusal) Chart → List ℕ → Bool
 is_for = purposed 0
 
 -- the image then holds v at place p
-abbrev pub keeps : Outcome StepAnswer Chart → ℕ → ℕ → Bool
+abbrev pub keeps : Outcome (Result ℕ Refusal) Chart → ℕ → ℕ → Bool
 keeps o p v = eqb (o.image.byte_at p) v
 
 abbrev starred : List Bool

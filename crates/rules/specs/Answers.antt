@@ -1,18 +1,11 @@
 -- How a call is refused, and the numbers of every answer.
-use Rattle.std.specs.Prelude.{ℕ, ◌+◌, ◌*◌, Bool, List, [], ◌∷◌}
+use Rattle.std.specs.Prelude.{ℕ, ◌+◌, ◌*◌, Bool, ⊤, List, [], ◌∷◌, Result, Ok, Err}
 use Rattle.rules.specs.declared.Refusal.{Refusal}
 use Rattle.rules.specs.declared.Refusal.TheVariants.{RecordLength, Malformed, ImageLength, Lines, Room, Undefined, ScriptLength}
 use Rattle.rules.specs.declared.Refusal.TheVariants.{FileLength, Admission, MapRecord, Vectors, Place, StoreAddress, Stack}
 use Rattle.rules.specs.declared.Refusal.TheVariants.{Successor, ListLength, ListRecord, Total}
 use Rattle.rules.specs.declared.Numbers.{Numbers}
-use Rattle.rules.specs.declared.StepAnswer.{StepAnswer}
-use Rattle.rules.specs.declared.StepAnswer.TheVariants.{Stepped, Refused}
-use Rattle.rules.specs.declared.RunAnswer.{RunAnswer}
-use Rattle.rules.specs.declared.RunAnswer.TheVariants.{Played, Stopped}
-use Rattle.rules.specs.declared.RestartAnswer.{RestartAnswer}
-use Rattle.rules.specs.declared.RestartAnswer.TheVariants.{Found, NotFound}
-use Rattle.rules.specs.declared.AppendAnswer.{AppendAnswer}
-use Rattle.rules.specs.declared.AppendAnswer.TheVariants.{At, Full}
+use Rattle.rules.specs.declared.Found.{Found}
 use Rattle.rules.specs.declared.Verdict.{Verdict}
 use Rattle.rules.specs.declared.Verdict.TheVariants.{Accepted, Barred}
 use Rattle.rules.specs.declared.CountAnswer.{CountAnswer}
@@ -68,9 +61,26 @@ packed n = n.number + 256 * n.small + 65536 * n.large
 abbrev pub refusal_word : Refusal → ℕ
 refusal_word e = packed (numbers_of e)
 
-abbrev pub step_word : StepAnswer → ℕ
-step_word (Stepped n) = packed (record { number = 0; small = n; large = 0 })
-step_word (Refused e) = refusal_word e
+-- the word of an answer that has these numbers where nothing refuses
+abbrev pub word_of : {A : Type 0} → (A → Numbers) → Result A Refusal → ℕ
+word_of numbers (Ok a) = packed (numbers a)
+word_of numbers (Err e) = refusal_word e
+
+-- a step answers its number of accesses
+abbrev pub step_word : Result ℕ Refusal → ℕ
+step_word = word_of (λ n. record { number = 0; small = n; large = 0 })
+
+-- a run: the steps done and the accesses listed, and its end, which is that of its script or a refusal
+pub record RunAnswer : Type 0 where
+  pub steps : ℕ
+  pub listed : ℕ
+  pub end : Result ⊤ Refusal
+
+abbrev pub ended : ℕ → ℕ → Result ⊤ Refusal → RunAnswer
+ended steps listed end = record { steps = steps; listed = listed; end = end }
+
+abbrev pub end_word : Result ⊤ Refusal → ℕ
+end_word = word_of (λ x. plain 0)
 
 -- beside the word a run gives the steps done and the accesses listed
 pub record RunWords : Type 0 where
@@ -79,16 +89,14 @@ pub record RunWords : Type 0 where
   pub listed : ℕ
 
 abbrev pub run_words : RunAnswer → RunWords
-run_words (Played steps listed) = record { word = 0; steps = steps; listed = listed }
-run_words (Stopped steps listed e) = record { word = refusal_word e; steps = steps; listed = listed }
+run_words a = record { word = end_word a.end; steps = a.steps; listed = a.listed }
 
-abbrev pub restart_word : RestartAnswer → ℕ
-restart_word (Found at tail) = packed (record { number = 0; small = tail; large = at })
-restart_word (NotFound e) = refusal_word e
+abbrev pub restart_word : Result Found Refusal → ℕ
+restart_word = word_of (λ f. record { number = 0; small = f.tail; large = f.at })
 
-abbrev pub append_word : AppendAnswer → ℕ
-append_word (At place) = packed (record { number = 0; small = 0; large = place })
-append_word (Full e) = refusal_word e
+-- an append goes to a place
+abbrev pub append_word : Result ℕ Refusal → ℕ
+append_word = word_of (λ place. record { number = 0; small = 0; large = place })
 
 abbrev pub verdict_word : Verdict → ℕ
 verdict_word Accepted = 0

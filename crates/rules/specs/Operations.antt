@@ -2,7 +2,7 @@
 use Rattle.std.specs.Prelude.{ℕ, ◌+◌, ◌-◌, ◌*◌, ◌/◌, ◌%◌, Bool, true, false, not, eqb}
 use Rattle.std.specs.Int.Bits.{bit_and, bit_or, bit_xor}
 use Rattle.rules.specs.declared.Flags.{Flags}
-use Rattle.rules.specs.declared.Result.{Result}
+use Rattle.rules.specs.declared.Flagged.{Flagged}
 use Rattle.rules.specs.declared.Cpu.{Cpu}
 use Rattle.rules.specs.declared.Reading.{Reading}
 use Rattle.rules.specs.declared.Reading.TheVariants.{Ora, And, Eor, Adc, Lda, Cmp, Sbc, Ldx, Ldy, Cpx, Cpy, Bit}
@@ -36,7 +36,7 @@ with_s s c = record { a = c.a; x = c.x; y = c.y; s = s; p = c.p; pc = c.pc }
 abbrev pub with_pc : ℕ → Cpu → Cpu
 with_pc pc c = record { a = c.a; x = c.x; y = c.y; s = c.s; p = c.p; pc = pc }
 
-abbrev pub with_result : Result → Cpu → Cpu
+abbrev pub with_result : Flagged → Cpu → Cpu
 with_result r c = record { a = r.value; x = c.x; y = c.y; s = c.s; p = r.flags; pc = c.pc }
 
 -- "loads, pulls of A, transfers except TXS, logic and steps by one set N, Z"

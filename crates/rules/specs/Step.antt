@@ -1,12 +1,11 @@
 -- One step: what it answers, and what it leaves in the record, the image and the access buffer.
 use Rattle.std.specs.Prelude.{ℕ, ◌+◌, ◌/◌, ◌%◌, Bool, true, not, ◌&&◌, ◌||◌, List, [], ◌∷◌, ◌++◌, ltb, leb, eqb, length, drop}
+use Rattle.std.specs.Prelude.{Result, Ok, Err}
 use Rattle.rules.specs.declared.Bus.{Bus}
 use Rattle.rules.specs.declared.Cpu.{Cpu}
 use Rattle.rules.specs.declared.State.{State}
 use Rattle.rules.specs.declared.Refusal.{Refusal}
 use Rattle.rules.specs.declared.Refusal.TheVariants.{RecordLength, Malformed, ImageLength, Lines, Room, Undefined}
-use Rattle.rules.specs.declared.StepAnswer.{StepAnswer}
-use Rattle.rules.specs.declared.StepAnswer.TheVariants.{Stepped, Refused}
 use Rattle.rules.specs.Basics.{at}
 use Rattle.rules.specs.Cycles.{execution, Ran, run}
 use Rattle.rules.specs.Opcodes.{decode, is_defined}
@@ -32,8 +31,8 @@ abbrev pub worded : {A B M : Type 0} → (A → B) → Outcome A M → Outcome B
 worded f o = left (f o.answer) o.state o.image o.accesses
 
 -- "no byte moves"
-abbrev pub refused : {M : Type 0} → List ℕ → M → List ℕ → Refusal → Outcome StepAnswer M
-refused r m buffer e = left (Refused e) r m buffer
+abbrev pub refused : {M : Type 0} → List ℕ → M → List ℕ → Refusal → Outcome (Result ℕ Refusal) M
+refused r m buffer e = left (Err e) r m buffer
 
 -- "The image is 65,536 bytes; for the 6509, k banks of that size, k = 1, 2, 4, 8 or 16"
 abbrev pub banks_in : ℕ → ℕ
@@ -69,9 +68,9 @@ state_after lines u ran =
       cycles = (u.cycles + length ran.list) % 4294967296;
     }
 
-unfoldable pub finished : {M : Type 0} → ℕ → State → Ran (World M) Cpu → List ℕ → Outcome StepAnswer M
+unfoldable pub finished : {M : Type 0} → ℕ → State → Ran (World M) Cpu → List ℕ → Outcome (Result ℕ Refusal) M
 finished lines u ran buffer =
-    left (Stepped (length ran.list)) (record_of (state_after lines u ran)) ran.after.image (front (list_of ran.list) buffer)
+    left (Ok (length ran.list)) (record_of (state_after lines u ran)) ran.after.image (front (list_of ran.list) buffer)
 
 module _ {M : Type 0} (memory : Memory M) where
   -- a step's accesses, made
@@ -113,5 +112,5 @@ module _ {M : Type 0} (memory : Memory M) where
             Room unless leb 56 (length buffer) ∷
             Undefined u.cpu.pc (opcode_of u m) unless can_step event_now u m ∷ []
 
-        unfoldable pub step : Outcome StepAnswer M
+        unfoldable pub step : Outcome (Result ℕ Refusal) M
         step = let u = state_now pins in tested step_tests (refused r m buffer) (finished lines u (ran_of event_now u m) buffer)

@@ -1,10 +1,9 @@
 -- The step printer: what is printed for an input, byte by byte.
 use Rattle.std.specs.Prelude.{ℕ, zero, suc, ◌+◌, ◌-◌, ◌*◌, ◌/◌, ◌%◌, List, [], ◌∷◌, ◌++◌, ltb, leb, eqb, length, take, drop, replicate}
+use Rattle.std.specs.Prelude.{Result, Ok, Err}
 use Prim.Native.Char.{code}
 use Rattle.rules.specs.declared.Refusal.{Refusal}
 use Rattle.rules.specs.declared.Refusal.TheVariants.{RecordLength, Malformed, ImageLength}
-use Rattle.rules.specs.declared.StepAnswer.{StepAnswer}
-use Rattle.rules.specs.declared.StepAnswer.TheVariants.{Stepped, Refused}
 use Rattle.rules.specs.Basics.{when◌then◌else◌, at}
 use Rattle.rules.specs.Bus.{Memory, images}
 use Rattle.rules.specs.Record.{well_formed}
@@ -73,9 +72,9 @@ abbrev pub refusal_line : Refusal → List ℕ
 refusal_line e = number_line (code "E") (numbers_of e).number
 
 -- what is printed of a step
-abbrev pub step_text : StepAnswer → List ℕ → List ℕ → List ℕ
-step_text (Stepped n) r l = each n (line_of l) ++ count_line n ++ record_line r
-step_text (Refused e) r l = refusal_line e
+abbrev pub step_text : Result ℕ Refusal → List ℕ → List ℕ → List ℕ
+step_text (Ok n) r l = each n (line_of l) ++ count_line n ++ record_line r
+step_text (Err e) r l = refusal_line e
 
 -- "an input under 16 bytes is 1, another wrong length 3, after 2"
 abbrev pub input_tests : ℕ → List ℕ → List Test
@@ -84,7 +83,7 @@ input_tests size r = RecordLength unless leb 16 size ∷ Malformed unless well_f
 -- "record, lines, pins, image"
 module _ {M : Type 0} (memory : Memory M) (r : List ℕ) (lines pins : ℕ) (m : M) where
   -- one step, with room for its accesses
-  abbrev pub step_of : Outcome StepAnswer M
+  abbrev pub step_of : Outcome (Result ℕ Refusal) M
   step_of = step memory r m lines pins (replicate 56 0)
 
   -- what is printed for an input of so many bytes

@@ -15,7 +15,7 @@ pub struct Flags {
 
 // A byte, and the flags with it.
 #[derive(Clone, Copy)]
-pub struct Result {
+pub struct Flagged {
     pub value: u8,
     pub flags: Flags,
 }
@@ -222,39 +222,11 @@ pub struct Numbers {
     pub large: u16,
 }
 
-// A step: its number of accesses.
+// What the reader finds in a restart file: where the last whole record stands, and how many tail bytes follow.
 #[derive(Clone, Copy)]
-pub enum StepAnswer {
-    Stepped(u8),
-    Refused(Refusal),
-}
-
-// A run: the steps done and the accesses listed, and why it stopped early.
-#[derive(Clone, Copy)]
-pub enum RunAnswer {
-    Played {
-        steps: u64,
-        listed: u64,
-    },
-    Stopped {
-        steps: u64,
-        listed: u64,
-        why: Refusal,
-    },
-}
-
-// The restart file: where the last whole record stands, and how many tail bytes follow.
-#[derive(Clone, Copy)]
-pub enum RestartAnswer {
-    Found { at: u16, tail: u8 },
-    NotFound(Refusal),
-}
-
-// Where the next record of a restart file goes.
-#[derive(Clone, Copy)]
-pub enum AppendAnswer {
-    At(u16),
-    Full(Refusal),
+pub struct Found {
+    pub at: u16,
+    pub tail: u8,
 }
 
 // Admission.

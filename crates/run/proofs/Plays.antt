@@ -5,11 +5,9 @@ use mathlib.Core.Path.{◌≡◌, refl, sym, ap, subst, ◌∙◌}
 use mathlib.Core.List.{List, ◌∷◌, ◌++◌}
 use lib.ListN.{length, take, drop, take-append-drop, length-drop, drop_of_length-le}
 use lib.Seq.{drop-cons}
+use Rattle.std.specs.Prelude.{Result, Ok, Err}
 use Rattle.rules.specs.declared.Refusal.{Refusal}
-use Rattle.rules.specs.declared.StepAnswer.{StepAnswer}
-use Rattle.rules.specs.declared.StepAnswer.TheVariants.{Stepped, Refused}
-use Rattle.rules.specs.declared.RunAnswer.TheVariants.{Played, Stopped}
-use Rattle.rules.specs.Answers.{step_word, refusal_word}
+use Rattle.rules.specs.Answers.{step_word, refusal_word, ended}
 use Rattle.rules.specs.Basics.{at}
 use Rattle.rules.specs.Bus.{images}
 use Rattle.rules.specs.Step.{Outcome, step, left, worded}
@@ -28,29 +26,29 @@ next_two s i h =
     drop-cons s i 0 (omega arith) ∙ ap (λ (t : List ℕ). at s i ∷ t) (rw a (drop-cons s (i + 1) 0 h ∙ (rw b)))
 
 -- What a step's word tells of its answer.
-module _ (w : ℕ) (r m l : List ℕ) (o : Outcome StepAnswer (List ℕ)) (e : left w r m l ≡ worded step_word o) where
+module _ (w : ℕ) (r m l : List ℕ) (o : Outcome (Result ℕ Refusal) (List ℕ)) (e : left w r m l ≡ worded step_word o) where
   word_is : w ≡ step_word o.answer
   word_is = λ j. (e j).answer
 
-  same : (a : StepAnswer) → o.answer ≡ a → left a r m l ≡ o
+  same : (a : Result ℕ Refusal) → o.answer ≡ a → left a r m l ≡ o
   same a h = (λ j. left (sym h j) (e j).state (e j).image (e j).accesses)
 
-  pub told_stepped : w % 256 ≡ 0 → left (Stepped (w / 256)) r m l ≡ o
-  told_stepped h = same (Stepped (w / 256)) (counted o.answer w word_is h)
+  pub told_stepped : w % 256 ≡ 0 → left (Ok (w / 256)) r m l ≡ o
+  told_stepped h = same (Ok (w / 256)) (counted o.answer w word_is h)
 
-  pub told_refused : (w % 256 ≡ 0 → ⊥) → (d : Refusal) × (w ≡ refusal_word d) × (left (Refused d) r m l ≡ o)
+  pub told_refused : (w % 256 ≡ 0 → ⊥) → (d : Refusal) × (w ≡ refusal_word d) × (left (Err d) r m l ≡ o)
   told_refused h = go o.answer refl
     where
-      go : (a : StepAnswer) → o.answer ≡ a → (d : Refusal) × (w ≡ refusal_word d) × (left (Refused d) r m l ≡ o)
-      go (Stepped n) q = let x : w ≡ step_word (Stepped n) = word_is ∙ ap step_word q in absurd (h (omega arith))
-      go (Refused d) q = (d, word_is ∙ ap step_word q, same (Refused d) q)
+      go : (a : Result ℕ Refusal) → o.answer ≡ a → (d : Refusal) × (w ≡ refusal_word d) × (left (Err d) r m l ≡ o)
+      go (Ok n) q = let x : w ≡ step_word (Ok n) = word_is ∙ ap step_word q in absurd (h (omega arith))
+      go (Err d) q = (d, word_is ∙ ap step_word q, same (Err d) q)
 
 -- A run that stands at byte i of the script s.
 module _ (s r m l : List ℕ) (i listed : ℕ) where
   abbrev rest : List ℕ
   rest = drop (8 * listed) l
 
-  abbrev turn : Outcome StepAnswer (List ℕ)
+  abbrev turn : Outcome (Result ℕ Refusal) (List ℕ)
   turn = step images r m (at s i) (at s (i + 1)) rest
 
   -- what it is lent is the buffer's rest
@@ -60,7 +58,7 @@ module _ (s r m l : List ℕ) (i listed : ℕ) where
   lent w r' m' t e = e ∙ (λ j. worded step_word (step images r m (at s i) (at s (i + 1)) (rest_lent (8 * listed) l j)))
 
   -- it is at the end
-  pub ends : length s ≤ i → left (Played (i / 2) listed) r m l ≡ play images (drop i s) (standing i listed r m l)
+  pub ends : length s ≤ i → left (ended (i / 2) listed (Ok tt)) r m l ≡ play images (drop i s) (standing i listed r m l)
   unfolding play
   ends h = rw (drop_of_length-le s h)
 
@@ -71,7 +69,7 @@ module _ (s r m l : List ℕ) (i listed : ℕ) where
   taken h = ap (λ (t : List ℕ). play images t (standing i listed r m l)) (next_two s i h)
 
   -- it has done that step
-  module _ (n : ℕ) (r' m' t : List ℕ) (e : left (Stepped n) r' m' t ≡ turn) where
+  module _ (n : ℕ) (r' m' t : List ℕ) (e : left (Ok n) r' m' t ≡ turn) where
     pub goes_on : i + 1 < length s →
         play images (drop i s) (standing i listed r m l) ≡
         play images (drop (i + 2) s) (standing (i + 2) (listed + n) r' m' (take (8 * listed) l ++ t))
@@ -80,9 +78,9 @@ module _ (s r m l : List ℕ) (i listed : ℕ) where
         taken h ∙ (λ j. let o = sym e j in continued (play images (drop (i + 2) s)) (standing i listed r m l) o o.answer)
         ∙ (λ j. play images (drop (i + 2) s) (left (record { steps = k j; listed = listed + n }) r' m' (take (8 * listed) l ++ t)))
 
-    did : Done images r m (at s i) (at s (i + 1)) rest (left (Stepped n) r' m' t) n
+    did : Done images r m (at s i) (at s (i + 1)) rest (left (Ok n) r' m' t) n
     did =
-        subst (λ (o : Outcome StepAnswer (List ℕ)). Done images r m (at s i) (at s (i + 1)) rest o n) (sym e)
+        subst (λ (o : Outcome (Result ℕ Refusal) (List ℕ)). Done images r m (at s i) (at s (i + 1)) rest o n) (sym e)
         ((lawful images r m (at s i) (at s (i + 1)) rest).moves n (λ j. (sym e j).answer))
 
     pub still_fits : Fits r m → length m' ≡ length m → Fits r' m'
@@ -92,11 +90,11 @@ module _ (s r m l : List ℕ) (i listed : ℕ) where
     still_room h = omega (arith, did.room, length-drop (8 * listed) l)
 
   -- that step was refused
-  pub stops : (d : Refusal) (r' m' t : List ℕ) → left (Refused d) r' m' t ≡ turn → i + 1 < length s →
-      left (Stopped (i / 2) listed d) r' m' (take (8 * listed) l ++ t) ≡ play images (drop i s) (standing i listed r m l)
+  pub stops : (d : Refusal) (r' m' t : List ℕ) → left (Err d) r' m' t ≡ turn → i + 1 < length s →
+      left (ended (i / 2) listed (Err d)) r' m' (take (8 * listed) l ++ t) ≡ play images (drop i s) (standing i listed r m l)
   stops d r' m' t e h =
       let q = e ∙ (lawful images r m (at s i) (at s (i + 1)) rest).stays d (λ j. (sym e j).answer) in
       let back = take-append-drop (8 * listed) l in
-      (λ j. let o = q j in left (Stopped (i / 2) listed d) o.state o.image (take (8 * listed) l ++ o.accesses))
-      ∙ (λ j. left (Stopped (i / 2) listed d) r m (back j))
+      (λ j. let o = q j in left (ended (i / 2) listed (Err d)) o.state o.image (take (8 * listed) l ++ o.accesses))
+      ∙ (λ j. left (ended (i / 2) listed (Err d)) r m (back j))
       ∙ sym (taken h ∙ (λ j. let o = sym e j in continued (play images (drop (i + 2) s)) (standing i listed r m l) o o.answer))

@@ -1,7 +1,6 @@
 -- What the caller of a run is told.
 use Rattle.std.specs.Prelude.{ℕ, List, [], ◌∷◌}
-use Rattle.rules.specs.declared.RunAnswer.{RunAnswer}
-use Rattle.rules.specs.Answers.{run_words}
+use Rattle.rules.specs.Answers.{RunAnswer, run_words}
 
 -- the word of a run, and its tally: the steps done and the accesses listed
 abbrev pub tallied : RunAnswer → ℕ × List ℕ

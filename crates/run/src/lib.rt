@@ -2,16 +2,14 @@
 
 #![tactic(auto)]
 
-ghost use Rattle.std.specs.Prelude.{◌≡◌, [], ◌∷◌, ◌%◌, length};
-ghost use Rattle.rules.specs.declared.RunAnswer.TheVariants.{Stopped};
-ghost use Rattle.rules.specs.Answers.{step_word};
+ghost use Rattle.std.specs.Prelude.{◌≡◌, [], ◌∷◌, ◌%◌, length, Err};
+ghost use Rattle.rules.specs.Answers.{step_word, ended};
 ghost use Rattle.rules.specs.Bus.{images};
 ghost use Rattle.rules.specs.Step.{step, left, worded};
 ghost use Rattle.rules.specs.Run.{start, play, run_of};
 ghost use Rattle.checks.specs.Checks.{Fits};
 ghost use Rattle.run.specs.Words.{tallied};
 
-use checks::Checked;
 use rules::Refusal;
 
 // Puts down the steps done and the accesses listed, and answers the word.
@@ -26,7 +24,7 @@ fn told(tally: &mut [u64], steps: usize, listed: usize, word: u64) -> u64
 
 // Refused "before anything".
 fn refused(tally: &mut [u64; 2], why: Refusal) -> u64
-    ensures { (result, tally.new) ≡ tallied (Stopped 0 0 why) }
+    ensures { (result, tally.new) ≡ tallied (ended 0 0 (Err why)) }
 {
     told(tally, 0, 0, words::refusal_word(why))
 }
@@ -37,10 +35,8 @@ fn turn(state: &mut [u8], image: &mut [u8], lines: u8, pins: u8, list: &mut [u8]
     ensures { left result state.new image.new list.new
         ≡ worded step_word (step images state.old image.old lines pins list.old) }
 {
-    if lines == 0 {
-        if pins == 0 {
-            return step::quiet(state, image, list);
-        }
+    if lines == 0 && pins == 0 {
+        return step::quiet(state, image, list);
     }
     step::step(state, image, lines, pins, list)
 }
@@ -88,13 +84,11 @@ pub fn run(
     ensures { left (result, tally.new) state.new image.new accesses.new
         ≡ worded tallied (run_of images state.old image.old script.now accesses.old) }
 {
-    match checks::fit(state, image) {
-        Checked::Fit => {
-            if script.len() % 2 != 0 {
-                return refused(tally, Refusal::ScriptLength);
-            }
-            play(state, image, script, accesses, tally)
-        }
-        Checked::Refused(e) => refused(tally, e),
+    if let Err(e) = checks::fit(state, image) {
+        return refused(tally, e);
     }
+    if script.len() % 2 != 0 {
+        return refused(tally, Refusal::ScriptLength);
+    }
+    play(state, image, script, accesses, tally)
 }

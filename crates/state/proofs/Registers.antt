@@ -5,7 +5,7 @@ use mathlib.Core.Path.{◌≡◌, ap, ◌∙◌}
 use mathlib.Core.List.{List}
 use lib.ListN.{set}
 use Rattle.rules.specs.declared.Flags.{Flags}
-use Rattle.rules.specs.declared.Result.{Result}
+use Rattle.rules.specs.declared.Flagged.{Flagged}
 use Rattle.rules.specs.declared.State.{State}
 use Rattle.rules.specs.Basics.{at, address}
 use Rattle.rules.specs.Flags.{flags_of, byte_of, nz}
@@ -41,7 +41,7 @@ pub makes_p : {f g : Flags} {r r' : List ℕ} → f ≡ g → r' ≡ set r 5 (by
 unfolding record_of
 makes_p i q t e = rw (q, i, e)
 
-pub makes_result : {m n : Result} {r r' : List ℕ} → m ≡ n → r' ≡ set (set r 5 (byte_of m.flags)) 1 m.value →
+pub makes_result : {m n : Flagged} {r r' : List ℕ} → m ≡ n → r' ≡ set (set r 5 (byte_of m.flags)) 1 m.value →
     Makes (with_result n) r r'
 unfolding record_of
 makes_result i q t e = rw (q, i, e)

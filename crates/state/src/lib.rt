@@ -6,7 +6,7 @@ ghost use Rattle.std.specs.Prelude.{◌/◌, ◌%◌, ◌<◌, ◌≡◌, length
 ghost use Rattle.rules.specs.Basics.{at, address};
 ghost use Rattle.rules.specs.Flags.{flags_of, byte_of, nz};
 
-use rules::{Flags, Result};
+use rules::{Flagged, Flags};
 
 // Where A, X, Y, S and P stand.
 pub const A: usize = 1;
@@ -63,7 +63,7 @@ pub fn to(state: &mut [u8; 16], register: usize, v: u8)
 }
 
 // A byte into A, and the flags with it.
-pub fn to_result(state: &mut [u8; 16], made: Result)
+pub fn to_result(state: &mut [u8; 16], made: Flagged)
     ensures { state.new ≡ set (set state.old 5 (byte_of made.flags)) 1 made.value }
 {
     let f = made.flags;

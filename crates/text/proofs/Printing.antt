@@ -6,8 +6,9 @@ use mathlib.Core.Bool.{true, false}
 use mathlib.Core.List.{List, ◌++◌}
 use borrow.Author.Tests.{lt-leb, le-leb, eq-eqb, ne_eqb}
 use lib.ListN.{length, take, drop, length-append, length-drop, replicate}
+use Rattle.std.specs.Prelude.{Result}
+use Rattle.rules.specs.declared.Refusal.{Refusal}
 use Rattle.rules.specs.declared.Refusal.TheVariants.{RecordLength, Malformed, ImageLength}
-use Rattle.rules.specs.declared.StepAnswer.{StepAnswer}
 use Rattle.rules.specs.Basics.{at}
 use Rattle.rules.specs.Answers.{step_word}
 use Rattle.rules.specs.Bus.{images}
@@ -23,7 +24,7 @@ use Rattle.text.specs.Print.{printout, input_after, printing}
 
 module _ (i t t' : List ℕ) (n : ℕ) where
   -- the step that is made
-  abbrev made : Outcome StepAnswer (List ℕ)
+  abbrev made : Outcome (Result ℕ Refusal) (List ℕ)
   made = step images (take 16 i) (drop 18 i) (at i 16) (at i 17) (replicate 56 0)
 
   pub print_short : length i < 16 → Shows (refusal_line RecordLength) n t t' → printout n i t' ≡ printing i t
@@ -40,14 +41,14 @@ module _ (i t t' : List ℕ) (n : ℕ) where
       unfolding text_of input_after
       print_length h s = rw (le-leb 16 (length i) room, well, ne_eqb (length i) 65554 h, s.count, s.text)
 
-      print_made : (a : StepAnswer) (r m l : List ℕ) → length i ≡ 65554 → left a r m l ≡ made →
+      print_made : (a : Result ℕ Refusal) (r m l : List ℕ) → length i ≡ 65554 → left a r m l ≡ made →
           Shows (step_text a r l) n t t' →
           printout n (take 18 i ++ m) t' ≡ printing i t
       unfolding text_of input_after
       print_made a r m l h e s = rw (le-leb 16 (length i) room, well, eq-eqb (length i) 65554 h, ← e, s.count, s.text)
 
       pub print_step : (word : ℕ) (r m l : List ℕ) → length i ≡ 65554 → left word r m l ≡ worded step_word made →
-          ((a : StepAnswer) → word ≡ step_word a → Shows (step_text a r l) n t t') →
+          ((a : Result ℕ Refusal) → word ≡ step_word a → Shows (step_text a r l) n t t') →
           printout n (take 18 i ++ m) t' ≡ printing i t
       print_step word r m l h e s =
           let a = made.answer in

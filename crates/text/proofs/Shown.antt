@@ -7,8 +7,8 @@ use mathlib.Core.List.{List, ◌++◌}
 use borrow.Author.Tests.{lt-ltb}
 use lib.ListN.{length, length-append}
 use lib.Seq.{sets}
-use Rattle.rules.specs.declared.StepAnswer.{StepAnswer}
-use Rattle.rules.specs.declared.StepAnswer.TheVariants.{Stepped, Refused}
+use Rattle.std.specs.Prelude.{Result, Ok, Err}
+use Rattle.rules.specs.declared.Refusal.{Refusal}
 use Rattle.rules.specs.Answers.{step_word}
 use Rattle.rules.specs.Text.{digits, each, line_of, number_line, count_line, record_line, step_text}
 use Rattle.characters.specs.Shown.{Shows}
@@ -26,7 +26,7 @@ count_length n h = rw (lt-ltb n 10 (omega arith))
 pub step_shown : (n p : ℕ) (r l t u v w : List ℕ) → n ≤ 7 → 137 ≤ length t →
     u ≡ sets t 0 (each n (line_of l)) → p ≡ 14 * n + length (count_line n) → v ≡ sets u (14 * n) (count_line n) →
     w ≡ sets v p (record_line r) →
-    Shows (step_text (Stepped n) r l) (p + 35) t w
+    Shows (step_text (Ok n) r l) (p + 35) t w
 step_shown n p r l t u v w few room a e b d =
     let lines = each n (line_of l) in
     let wide = each_length (line_of l) 14 (line_length l) n in
@@ -43,11 +43,11 @@ step_shown n p r l t u v w few room a e b d =
 
 -- what is put for a step's word is the text of its answer
 module _ (word n : ℕ) (r l t t' : List ℕ) where
-  pub stepped_shown : word % 256 ≡ 0 → Shows (step_text (Stepped (word / 256)) r l) n t t' →
-      (a : StepAnswer) → word ≡ step_word a → Shows (step_text a r l) n t t'
+  pub stepped_shown : word % 256 ≡ 0 → Shows (step_text (Ok (word / 256)) r l) n t t' →
+      (a : Result ℕ Refusal) → word ≡ step_word a → Shows (step_text a r l) n t t'
   stepped_shown h s a e = rw (counted a word e h) s
 
   pub refused_shown : (word % 256 ≡ 0 → ⊥) → Shows (number_line (code "E") (word % 256)) n t t' →
-      (a : StepAnswer) → word ≡ step_word a → Shows (step_text a r l) n t t'
-  refused_shown h s (Stepped k) e = absurd (h (omega (arith, e)))
-  refused_shown h s (Refused d) e = rw (← low d, ← e) s
+      (a : Result ℕ Refusal) → word ≡ step_word a → Shows (step_text a r l) n t t'
+  refused_shown h s (Ok k) e = absurd (h (omega (arith, e)))
+  refused_shown h s (Err d) e = rw (← low d, ← e) s

@@ -2,10 +2,9 @@
 
 #![tactic(auto)]
 
-ghost use Rattle.std.specs.Prelude.{◌+◌, ◌*◌, ◌/◌, ◌%◌, ◌≤◌, ◌≡◌, length, take};
+ghost use Rattle.std.specs.Prelude.{ℕ, ◌+◌, ◌*◌, ◌/◌, ◌%◌, ◌≤◌, ◌≡◌, length, take, Result, Ok};
 ghost use Rattle.std.proofs.lemmas.List.Edits.{sets};
-ghost use Rattle.rules.specs.declared.StepAnswer.{StepAnswer};
-ghost use Rattle.rules.specs.declared.StepAnswer.TheVariants.{Stepped};
+ghost use Rattle.rules.specs.declared.Refusal.{Refusal};
 ghost use Rattle.rules.specs.Answers.{step_word};
 ghost use Rattle.rules.specs.Text.{hex, letter, each, access_line, line_of, bytes_text, record_line, step_text};
 ghost use Rattle.characters.specs.Shown.{Shows};
@@ -108,7 +107,7 @@ fn put_record(text: &mut [u8], at: usize, state: &[u8])
 
 fn put_step(text: &mut [u8], n: u8, state: &[u8], list: &[u8]) -> usize
     requires { ((n ≤ 7) × (137 ≤ length text.old)) × ((length state.now ≡ 16) × (56 ≤ length list.now)) }
-    ensures { Shows (step_text (Stepped n) state.now list.now) result text.old text.new }
+    ensures { Shows (step_text (Ok n) state.now list.now) result text.old text.new }
 {
     put_accesses(text, list, n as usize);
     let at = characters::put_number(text, 14 * n as usize, b'N', n as u64);
@@ -120,7 +119,7 @@ fn put_step(text: &mut [u8], n: u8, state: &[u8], list: &[u8]) -> usize
 fn put_answer(text: &mut [u8], word: u64, state: &[u8], list: &[u8]) -> usize
     requires { ((word % 256 ≡ 0 → word / 256 ≤ 7) × (137 ≤ length text.old))
         × ((length state.now ≡ 16) × (56 ≤ length list.now)) }
-    ensures { (a : StepAnswer) → word ≡ step_word a →
+    ensures { (a : Result ℕ Refusal) → word ≡ step_word a →
         Shows (step_text a state.now list.now) result text.old text.new }
 {
     let number = word % 256;

@@ -2,12 +2,11 @@
 use Prim.Native.Nat.{ℕ, ◌/◌, ◌%◌, ◌≤◌}
 use native.Mathlib.Omega.{arith}
 use mathlib.Core.Path.{◌≡◌, sym, ap, ◌∙◌}
+use Rattle.std.specs.Prelude.{Result, Ok, Err}
 use Rattle.rules.specs.declared.Refusal.{Refusal}
 use Rattle.rules.specs.declared.Refusal.TheVariants.{RecordLength, Malformed, ImageLength, Lines, Room, Undefined, ScriptLength}
 use Rattle.rules.specs.declared.Refusal.TheVariants.{FileLength, Admission, MapRecord, Vectors, Place, StoreAddress, Stack}
 use Rattle.rules.specs.declared.Refusal.TheVariants.{Successor, ListLength, ListRecord, Total}
-use Rattle.rules.specs.declared.StepAnswer.{StepAnswer}
-use Rattle.rules.specs.declared.StepAnswer.TheVariants.{Stepped, Refused}
 use Rattle.rules.specs.Answers.{numbers_of, refusal_word, step_word}
 
 -- a refusal's number is 1 to 255
@@ -44,6 +43,6 @@ pub nonzero : (d : Refusal) → refusal_word d ≡ 0 → ⊥
 nonzero d h = numbered d (ap (λ (n : ℕ). n % 256) h)
 
 -- the answer of a step whose word has the low byte 0
-pub counted : (a : StepAnswer) (word : ℕ) → word ≡ step_word a → word % 256 ≡ 0 → a ≡ Stepped (word / 256)
-counted (Stepped n) word e h = ap Stepped (omega (arith, e))
-counted (Refused d) word e h = absurd (numbered d (ap (λ (w : ℕ). w % 256) (sym e) ∙ h))
+pub counted : (a : Result ℕ Refusal) (word : ℕ) → word ≡ step_word a → word % 256 ≡ 0 → a ≡ Ok (word / 256)
+counted (Ok n) word e h = ap Ok (omega (arith, e))
+counted (Err d) word e h = absurd (numbered d (ap (λ (w : ℕ). w % 256) (sym e) ∙ h))

@@ -11,7 +11,7 @@ fn plain(number: u8) -> Numbers
     ensures { result ≡ plain number }
 {
     Numbers {
-        number: number,
+        number,
         small: 0,
         large: 0,
     }
@@ -21,7 +21,7 @@ fn with_index(number: u8, i: u16) -> Numbers
     ensures { result ≡ with_index number i }
 {
     Numbers {
-        number: number,
+        number,
         small: 0,
         large: i,
     }

@@ -5,23 +5,23 @@ use Rattle.checks.proofs.Fits.{fits}
 use mathlib.Core.Path.{sym, ap, ◌∙◌}
 use Rattle.run.proofs.run.Goals as goal
 
+pub returns-in-Err : goal.returns-in-Err
+returns-in-Err c =
+    let a = c.args in
+    let unfit = sym c.in-Err.is ∙ c.fit.ensures in
+    rw c.refused.ensures
+    (ap (worded tallied) (run_unfit a.state.now a.image.now a.accesses.now a.script.now _ unfit))
+
 pub returns-then-script-ne0 : goal.returns-then-script-ne0
 returns-then-script-ne0 c =
     let a = c.args in
-    let f = fits _ _ (sym c.in-Fit.is ∙ c.fit.ensures) in
-    rw c.refused.ensures
+    let f = fits _ _ (sym c.in_default.is ∙ c.fit.ensures) in
+    rw c.refused-then-script-ne0.ensures
     (ap (worded tallied) (odd a.state.now a.image.now a.accesses.now a.script.now f c.if-script-ne0.true))
 
-pub returns-else-script-ne0 : goal.returns-else-script-ne0
-returns-else-script-ne0 c =
+pub returns : goal.returns
+returns c =
     let a = c.args in
-    let f = fits _ _ (sym c.in-Fit.is ∙ c.fit.ensures) in
+    let f = fits _ _ (sym c.in_default.is ∙ c.fit.ensures) in
     c.play.ensures
     ∙ ap (worded tallied) (even a.state.now a.image.now a.accesses.now a.script.now f c.if-script-ne0.false)
-
-pub returns-in-Refused : goal.returns-in-Refused
-returns-in-Refused c =
-    let a = c.args in
-    let unfit = sym c.in-Refused.is ∙ c.fit.ensures in
-    rw c.refused-in-Refused.ensures
-    (ap (worded tallied) (run_unfit a.state.now a.image.now a.accesses.now a.script.now _ unfit))
