@@ -19,17 +19,10 @@ ghost use Rattle.laws.proofs.Lengths.{place_most};
 use rules::{Mode, Purpose};
 use wiring::Wiring;
 
-// A byte that was found, and the accesses made so far.
+// A byte or an address that was found, and the accesses made so far.
 #[derive(Clone, Copy)]
-pub(crate) struct Loaded {
-    pub value: u8,
-    pub count: usize,
-}
-
-// An address that was found, and the accesses made so far.
-#[derive(Clone, Copy)]
-pub(crate) struct Spot {
-    pub address: u16,
+pub(crate) struct Reached<T> {
+    pub value: T,
     pub count: usize,
 }
 
@@ -118,7 +111,7 @@ fn load_indexed(
     k: usize,
     a: u16,
     i: u8,
-) -> Loaded
+) -> Reached<u8>
     requires { (k < 6) × (w.size ≤ length image.now) }
     ensures { (result.count ≤ k + 2) × ((s : State) (κ : Bank) → Stands κ s state.now w →
         Goes (load_indexed κ a i) k s.bus image.now list.old result.value result.count s.bus image.now
@@ -128,13 +121,13 @@ fn load_indexed(
     let sum = a.wrapping_add(i as u16);
     let first = reads::read(first_for(near, sum), state, w, image, list, k, near);
     if sum == near {
-        return Loaded {
+        return Reached {
             value: first,
             count: k + 1,
         };
     }
     let second = reads::read(Purpose::Data, state, w, image, list, k + 1, sum);
-    Loaded {
+    Reached {
         value: second,
         count: k + 2,
     }
@@ -243,14 +236,14 @@ fn from_zero(
     w: Wiring,
     image: &[u8],
     list: &mut [u8; 56],
-) -> Loaded
+) -> Reached<u8>
     requires { w.size ≤ length image.now }
     ensures { (result.count ≤ 7) × ((s : State) → Stands execution s state.old w → pc ≡ s.cpu.pc →
         Reaches 2 (get Data z) s image.now list.old result.value result.count
         state.new list.new) }
 {
     past(2, pc, state);
-    Loaded {
+    Reached {
         value: reads::read(Purpose::Data, state, w, image, list, 2, z as u16),
         count: 3,
     }
@@ -265,14 +258,14 @@ fn from_zero_indexed(
     w: Wiring,
     image: &[u8],
     list: &mut [u8; 56],
-) -> Loaded
+) -> Reached<u8>
     requires { w.size ≤ length image.now }
     ensures { (result.count ≤ 7) × ((s : State) → Stands execution s state.old w → pc ≡ s.cpu.pc →
         Reaches 2 (load_zero_indexed z i) s image.now list.old result.value result.count
         state.new list.new) }
 {
     let at = zero_indexed(z, i, pc, state, w, image, list);
-    Loaded {
+    Reached {
         value: reads::read(Purpose::Data, state, w, image, list, 3, at as u16),
         count: 4,
     }
@@ -287,14 +280,14 @@ fn from_absolute(
     w: Wiring,
     image: &[u8],
     list: &mut [u8; 56],
-) -> Loaded
+) -> Reached<u8>
     requires { w.size ≤ length image.now }
     ensures { (result.count ≤ 7) × ((s : State) → Fetched (λ v. high) s state.old image.now w pc →
         Reaches 3 (get Data (address low high)) s image.now list.old result.value result.count
         state.new list.new) }
 {
     let a = absolute(low, high, pc, state, w, list);
-    Loaded {
+    Reached {
         value: reads::read(Purpose::Data, state, w, image, list, 3, a),
         count: 4,
     }
@@ -308,7 +301,7 @@ fn from_indirect_x(
     w: Wiring,
     image: &[u8],
     list: &mut [u8; 56],
-) -> Loaded
+) -> Reached<u8>
     requires { w.size ≤ length image.now }
     ensures { (result.count ≤ 7) × ((s : State) → Stands execution s state.old w → pc ≡ s.cpu.pc →
         Reaches 2 (load s.cpu (IndirectX z)) s image.now list.old result.value result.count
@@ -317,7 +310,7 @@ fn from_indirect_x(
     let x = state[state::X];
     let at = zero_indexed(z, x, pc, state, w, image, list);
     let a = pointer(state, w, image, list, 3, at);
-    Loaded {
+    Reached {
         value: reads::read(Purpose::Data, state, w, image, list, 5, a),
         count: 6,
     }
@@ -332,7 +325,7 @@ fn from_indirect_y(
     there: Wiring,
     image: &[u8],
     list: &mut [u8; 56],
-) -> Loaded
+) -> Reached<u8>
     requires { (w.size ≤ length image.now) × (there.size ≤ length image.now) }
     ensures { (result.count ≤ 7) × ((s : State) (κ : Bank) → Stands execution s state.old w → pc ≡ s.cpu.pc →
         Stands κ s state.old there →
@@ -352,7 +345,7 @@ pub(crate) fn load(
     w: Wiring,
     image: &[u8],
     list: &mut [u8; 56],
-) -> Loaded
+) -> Reached<u8>
     requires { w.size ≤ length image.now }
     ensures { (result.count ≤ 7) × ((s : State) → Fetched (high_in m) s state.old image.now w pc →
         Reaches (mode_size m) (load (past (mode_size m) s.cpu) m) s image.now list.old result.value result.count
@@ -361,7 +354,7 @@ pub(crate) fn load(
     match m {
         Mode::Immediate(v) => {
             past(2, pc, state);
-            Loaded { value: v, count: 2 }
+            Reached { value: v, count: 2 }
         }
         Mode::Zero(z) => from_zero(z, pc, state, w, image, list),
         Mode::ZeroX(z) => from_zero_indexed(z, state[state::X], pc, state, w, image, list),
@@ -391,56 +384,56 @@ pub(crate) fn place(
     w: Wiring,
     image: &[u8],
     list: &mut [u8; 56],
-) -> Spot
+) -> Reached<u16>
     requires { w.size ≤ length image.now }
     ensures { ((result.count ≤ 5) × (result.count ≤ mode_size m + place_most m))
         × ((s : State) → Fetched (high_in m) s state.old image.now w pc →
-        Reaches (mode_size m) (place (past (mode_size m) s.cpu) m) s image.now list.old result.address result.count
+        Reaches (mode_size m) (place (past (mode_size m) s.cpu) m) s image.now list.old result.value result.count
         state.new list.new) }
 {
     match m {
         Mode::Immediate(v) => {
             past(2, pc, state);
-            Spot {
-                address: v as u16,
+            Reached {
+                value: v as u16,
                 count: 2,
             }
         }
         Mode::Zero(z) => {
             past(2, pc, state);
-            Spot {
-                address: z as u16,
+            Reached {
+                value: z as u16,
                 count: 2,
             }
         }
-        Mode::ZeroX(z) => Spot {
-            address: zero_indexed(z, state[state::X], pc, state, w, image, list) as u16,
+        Mode::ZeroX(z) => Reached {
+            value: zero_indexed(z, state[state::X], pc, state, w, image, list) as u16,
             count: 3,
         },
-        Mode::ZeroY(z) => Spot {
-            address: zero_indexed(z, state[state::Y], pc, state, w, image, list) as u16,
+        Mode::ZeroY(z) => Reached {
+            value: zero_indexed(z, state[state::Y], pc, state, w, image, list) as u16,
             count: 3,
         },
-        Mode::Absolute(low, high) => Spot {
-            address: absolute(low, high, pc, state, w, list),
+        Mode::Absolute(low, high) => Reached {
+            value: absolute(low, high, pc, state, w, list),
             count: 3,
         },
-        Mode::AbsoluteX(low, high) => Spot {
-            address: at_absolute_indexed(low, high, state[state::X], pc, state, w, image, list),
+        Mode::AbsoluteX(low, high) => Reached {
+            value: at_absolute_indexed(low, high, state[state::X], pc, state, w, image, list),
             count: 4,
         },
-        Mode::AbsoluteY(low, high) => Spot {
-            address: at_absolute_indexed(low, high, state[state::Y], pc, state, w, image, list),
+        Mode::AbsoluteY(low, high) => Reached {
+            value: at_absolute_indexed(low, high, state[state::Y], pc, state, w, image, list),
             count: 4,
         },
-        Mode::IndirectX(z) => Spot {
-            address: at_indirect_x(z, pc, state, w, image, list),
+        Mode::IndirectX(z) => Reached {
+            value: at_indirect_x(z, pc, state, w, image, list),
             count: 5,
         },
         Mode::IndirectY(z) | Mode::IndirectBankY(z) => {
             let there = wiring_of(m, state, w);
-            Spot {
-                address: at_indirect_y(z, pc, state, w, there, image, list),
+            Reached {
+                value: at_indirect_y(z, pc, state, w, there, image, list),
                 count: 5,
             }
         }

@@ -22,7 +22,7 @@ ghost use Rattle.processor.specs.Laid.{stored_at, rewritten, changed_at, Lays};
 ghost use Rattle.processor.specs.Executed.{Begins, Executed};
 ghost use Rattle.processor.specs.Found.{Found, second_for, begun};
 
-use addressing::Spot;
+use addressing::Reached;
 use rules::{
     Changing, Condition, Instruction, Internal, Mode, Purpose, Reading, Stacking, Storing,
 };
@@ -41,7 +41,7 @@ fn register_of(o: Storing, state: &[u8; 16]) -> u8
 fn store(
     o: Storing,
     m: Mode,
-    at: Spot,
+    at: Reached<u16>,
     state: &mut [u8; 16],
     w: Wiring,
     image: &mut [u8],
@@ -49,7 +49,7 @@ fn store(
 )
     requires { (at.count < 7) × (w.size ≤ length image.old) }
     ensures { (s : State) → Stands execution s state.old w →
-        Does (stored_at o m at.address s.cpu) at.count s image.old list.old (at.count + 1)
+        Does (stored_at o m at.value s.cpu) at.count s image.old list.old (at.count + 1)
         state.new image.new list.new }
 {
     let there = addressing::wiring_of(m, state, w);
@@ -61,7 +61,7 @@ fn store(
         image,
         list,
         at.count,
-        at.address,
+        at.value,
         v,
     );
 }
@@ -93,7 +93,7 @@ fn rewrite(
 
 fn change(
     o: Changing,
-    at: Spot,
+    at: Reached<u16>,
     state: &mut [u8; 16],
     w: Wiring,
     image: &mut [u8],
@@ -101,11 +101,11 @@ fn change(
 )
     requires { (at.count < 5) × (w.size ≤ length image.old) }
     ensures { (s : State) → Stands execution s state.old w →
-        Does (changed_at o at.address s.cpu) at.count s image.old list.old (at.count + 3)
+        Does (changed_at o at.value s.cpu) at.count s image.old list.old (at.count + 3)
         state.new image.new list.new }
 {
     let k = at.count;
-    let a = at.address;
+    let a = at.value;
     let v = reads::read(Purpose::Data, state, w, image, list, k, a);
     rewrite(o, k + 1, a, v, state, w, image, list);
 }

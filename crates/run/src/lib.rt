@@ -13,12 +13,10 @@ ghost use Rattle.run.specs.Words.{tallied};
 use rules::Refusal;
 
 // Puts down the steps done and the accesses listed, and answers the word.
-fn told(tally: &mut [u64], steps: usize, listed: usize, word: u64) -> u64
-    requires { length tally.old ≡ 2 }
+fn told(tally: &mut [u64; 2], steps: usize, listed: usize, word: u64) -> u64
     ensures { (result ≡ word) × (tally.new ≡ steps ∷ listed ∷ []) }
 {
-    tally[0] = steps as u64;
-    tally[1] = listed as u64;
+    *tally = [steps as u64, listed as u64];
     word
 }
 
@@ -30,7 +28,7 @@ fn refused(tally: &mut [u64; 2], why: Refusal) -> u64
 }
 
 // The word of the step with these lines and pins.
-fn turn(state: &mut [u8], image: &mut [u8], lines: u8, pins: u8, list: &mut [u8]) -> u64
+fn turn(state: &mut [u8; 16], image: &mut [u8], lines: u8, pins: u8, list: &mut [u8]) -> u64
     requires { Fits state.old image.old }
     ensures { left result state.new image.new list.new
         ≡ worded step_word (step images state.old image.old lines pins list.old) }
@@ -44,7 +42,7 @@ fn turn(state: &mut [u8], image: &mut [u8], lines: u8, pins: u8, list: &mut [u8]
 // Step by step to the script's end: "each step's list is written into the rest of the access buffer"; "a refusal in a step ends it, with
 // the steps done standing and counted".
 fn play(
-    state: &mut [u8],
+    state: &mut [u8; 16],
     image: &mut [u8],
     script: &[u8],
     accesses: &mut [u8],
@@ -54,23 +52,16 @@ fn play(
     ensures { left (result, tally.new) state.new image.new accesses.new
         ≡ worded tallied (play images script.now (start state.old image.old accesses.old)) }
 {
-    let mut i: usize = 0;
+    let (turns, _rest) = script.as_chunks::<2>();
     let mut listed: usize = 0;
-    while i < script.len() {
-        let word = turn(
-            state,
-            image,
-            script[i],
-            script[i + 1],
-            &mut accesses[8 * listed..],
-        );
+    for (steps, &[lines, pins]) in turns.iter().enumerate() {
+        let word = turn(state, image, lines, pins, &mut accesses[8 * listed..]);
         if word % 256 != 0 {
-            return told(tally, i / 2, listed, word);
+            return told(tally, steps, listed, word);
         }
-        listed = listed + (word / 256) as usize;
-        i = i + 2;
+        listed += (word / 256) as usize;
     }
-    told(tally, i / 2, listed, 0)
+    told(tally, turns.len(), listed, 0)
 }
 
 // "Run: 1, 2, 3, 7 before anything". Answers the word; the tally is the steps done and the accesses listed.
@@ -84,11 +75,14 @@ pub fn run(
     ensures { left (result, tally.new) state.new image.new accesses.new
         ≡ worded tallied (run_of images state.old image.old script.now accesses.old) }
 {
-    if let Err(e) = checks::fit(state, image) {
+    let Some(bytes) = state.as_mut_array::<16>() else {
+        return refused(tally, Refusal::RecordLength);
+    };
+    if let Err(e) = checks::fit(bytes, image) {
         return refused(tally, e);
     }
     if script.len() % 2 != 0 {
         return refused(tally, Refusal::ScriptLength);
     }
-    play(state, image, script, accesses, tally)
+    play(bytes, image, script, accesses, tally)
 }
