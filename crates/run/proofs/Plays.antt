@@ -43,8 +43,12 @@ module _ (w : ℕ) (r m l : List ℕ) (o : Outcome (Result ℕ Refusal) (List �
       go (Ok n) q = let x : w ≡ step_word (Ok n) = word_is ∙ ap step_word q in absurd (h (omega arith))
       go (Err d) q = (d, word_is ∙ ap step_word q, same (Err d) q)
 
--- A run that stands at byte i of the script s.
-module _ (s r m l : List ℕ) (i listed : ℕ) where
+-- A run that has done so many steps of the script s.
+module _ (s r m l : List ℕ) (steps listed : ℕ) where
+  -- where the next step's two bytes stand
+  abbrev i : ℕ
+  i = steps * 2
+
   abbrev rest : List ℕ
   rest = drop (8 * listed) l
 
@@ -58,25 +62,25 @@ module _ (s r m l : List ℕ) (i listed : ℕ) where
   lent w r' m' t e = e ∙ (λ j. worded step_word (step images r m (at s i) (at s (i + 1)) (rest_lent (8 * listed) l j)))
 
   -- it is at the end
-  pub ends : length s ≤ i → left (ended (i / 2) listed (Ok tt)) r m l ≡ play images (drop i s) (standing i listed r m l)
+  pub ends : length s ≤ i → left (ended steps listed (Ok tt)) r m l ≡ play images (drop i s) (standing steps listed r m l)
   unfolding play
   ends h = rw (drop_of_length-le s h)
 
   taken : i + 1 < length s →
-      play images (drop i s) (standing i listed r m l) ≡
-      continued (play images (drop (i + 2) s)) (standing i listed r m l) turn turn.answer
+      play images (drop i s) (standing steps listed r m l) ≡
+      continued (play images (drop (i + 2) s)) (standing steps listed r m l) turn turn.answer
   unfolding play
-  taken h = ap (λ (t : List ℕ). play images t (standing i listed r m l)) (next_two s i h)
+  taken h = ap (λ (t : List ℕ). play images t (standing steps listed r m l)) (next_two s i h)
 
   -- it has done that step
   module _ (n : ℕ) (r' m' t : List ℕ) (e : left (Ok n) r' m' t ≡ turn) where
     pub goes_on : i + 1 < length s →
-        play images (drop i s) (standing i listed r m l) ≡
-        play images (drop (i + 2) s) (standing (i + 2) (listed + n) r' m' (take (8 * listed) l ++ t))
+        play images (drop i s) (standing steps listed r m l) ≡
+        play images (drop ((steps + 1) * 2) s) (standing (steps + 1) (listed + n) r' m' (take (8 * listed) l ++ t))
     goes_on h =
-        let k : i / 2 + 1 ≡ (i + 2) / 2 = omega arith in
-        taken h ∙ (λ j. let o = sym e j in continued (play images (drop (i + 2) s)) (standing i listed r m l) o o.answer)
-        ∙ (λ j. play images (drop (i + 2) s) (left (record { steps = k j; listed = listed + n }) r' m' (take (8 * listed) l ++ t)))
+        let k : i + 2 ≡ (steps + 1) * 2 = omega arith in
+        taken h ∙ (λ j. let o = sym e j in continued (play images (drop (i + 2) s)) (standing steps listed r m l) o o.answer)
+        ∙ (λ j. play images (drop (k j) s) (standing (steps + 1) (listed + n) r' m' (take (8 * listed) l ++ t)))
 
     did : Done images r m (at s i) (at s (i + 1)) rest (left (Ok n) r' m' t) n
     did =
@@ -91,10 +95,10 @@ module _ (s r m l : List ℕ) (i listed : ℕ) where
 
   -- that step was refused
   pub stops : (d : Refusal) (r' m' t : List ℕ) → left (Err d) r' m' t ≡ turn → i + 1 < length s →
-      left (ended (i / 2) listed (Err d)) r' m' (take (8 * listed) l ++ t) ≡ play images (drop i s) (standing i listed r m l)
+      left (ended steps listed (Err d)) r' m' (take (8 * listed) l ++ t) ≡ play images (drop i s) (standing steps listed r m l)
   stops d r' m' t e h =
       let q = e ∙ (lawful images r m (at s i) (at s (i + 1)) rest).stays d (λ j. (sym e j).answer) in
       let back = take-append-drop (8 * listed) l in
-      (λ j. let o = q j in left (ended (i / 2) listed (Err d)) o.state o.image (take (8 * listed) l ++ o.accesses))
-      ∙ (λ j. left (ended (i / 2) listed (Err d)) r m (back j))
-      ∙ sym (taken h ∙ (λ j. let o = sym e j in continued (play images (drop (i + 2) s)) (standing i listed r m l) o o.answer))
+      (λ j. let o = q j in left (ended steps listed (Err d)) o.state o.image (take (8 * listed) l ++ o.accesses))
+      ∙ (λ j. left (ended steps listed (Err d)) r m (back j))
+      ∙ sym (taken h ∙ (λ j. let o = sym e j in continued (play images (drop (i + 2) s)) (standing steps listed r m l) o o.answer))
