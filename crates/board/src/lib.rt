@@ -9,6 +9,7 @@ ghost use Rattle.rules.specs.Step.{step, left, worded};
 ghost use Rattle.rules.specs.Run.{run_of};
 
 // "Step: 1 to 6 in order"
+#[tactic(auto, using(step::proofs::Finish::closes_refused))]
 pub fn wankitare_step(
     state: &mut [u8],
     image: &mut [u8],

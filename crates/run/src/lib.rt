@@ -74,6 +74,7 @@ fn play(
 }
 
 // "Run: 1, 2, 3, 7 before anything". Answers the word; the tally is the steps done and the accesses listed.
+#[tactic(auto, using(checks::proofs::Fits::fits, crate::proofs::Firsts::firsts))]
 pub fn run(
     state: &mut [u8],
     image: &mut [u8],
