@@ -1,5 +1,5 @@
 -- The rules of one record, up to those of its instruction.
-use Rattle.std.proofs.Common.{◌≡◌, ℕ, ◌+◌, ◌-◌, ◌/◌, ◌<◌, ◌≤◌, true, List, ◌∙◌, le-leb}
+use Rattle.std.proofs.Common.{◌≡◌, ℕ, ◌+◌, ◌-◌, ◌/◌, ◌<◌, ◌≤◌, true, List, ◌∙◌, le-leb, Err}
 use borrow.Author.Tests.{lt-leb}
 use Rattle.rules.specs.declared.Instruction.{Instruction}
 use Rattle.rules.specs.declared.Refusal.TheVariants.{Place}
@@ -7,9 +7,7 @@ use Rattle.rules.specs.Basics.{at, sum16}
 use Rattle.rules.specs.Opcodes.{decode, size_of, instruction_of}
 use Rattle.rules.specs.Bus.{is_protected, images}
 use Rattle.admission_rules.specs.declared.Mark.{Mark}
-use Rattle.admission_rules.specs.declared.Rules.{Rules}
-use Rattle.admission_rules.specs.declared.Rules.TheVariants.{Broken}
-use Rattle.admission_rules.specs.Admission.{mark_at, rules_of, rules_at}
+use Rattle.admission_rules.specs.Admission.{Rules, mark_at, rules_of, rules_at}
 use Rattle.laws.specs.Sizes.{size_in}
 use Rattle.admission.proofs.Sizes.{size_is}
 
@@ -23,7 +21,7 @@ module _ (m : List ℕ) (c : ℕ) (map : List ℕ) (i : ℕ) (k : Mark) (here : 
   abbrev size : ℕ
   size = size_of (decode (at m p))
 
-  pub unprotected : k.address / 256 < 256 - c → Broken (Place i) ≡ its
+  pub unprotected : k.address / 256 < 256 - c → Err (Place i) ≡ its
   unfolding rules_at
   unprotected h = rw (lt-leb (256 - c) (p / 256) (rw here at h))
 
@@ -42,7 +40,7 @@ module _ (m : List ℕ) (c : ℕ) (map : List ℕ) (i : ℕ) (k : Mark) (here : 
       place_kept : is_protected c p ≡ true
       place_kept = le-leb (256 - c) (p / 256) (rw here at kept)
 
-      pub too_long : 65536 < k.address + n → Broken (Place i) ≡ its
+      pub too_long : 65536 < k.address + n → Err (Place i) ≡ its
       unfolding rules_at
       too_long h = rw (place_kept, lt-leb (p + size) 65536 (rw (here, long) at h))
 

@@ -1,5 +1,6 @@
 -- What is known of a map once its records have been looked at.
-use Rattle.std.specs.Prelude.{◌≡◌, ℕ, ◌+◌, ◌*◌, ◌<◌, ◌≤◌, Bool, true, false, ◌&&◌, List, ◌==◌, nat_le}
+use Rattle.std.specs.Prelude.{◌≡◌, ℕ, ◌+◌, ◌*◌, ◌<◌, ◌≤◌, Bool, true, false, ◌&&◌, List, ◌==◌, nat_le, Option, Some, None}
+use Rattle.std.specs.Option.{option_map_or}
 use Rattle.rules.specs.Basics.{at}
 use Rattle.admission_rules.specs.Admission.{main, handler, mark_at, marks_in, marked, is_mark, ascends}
 
@@ -12,11 +13,20 @@ shaped map i =
 abbrev pub formed : List ℕ → ℕ → Bool
 formed map i = shaped map i && ascends map i
 
--- r is the first record that is not formed, or the number of records
-pub record Formed (map : List ℕ) (r : ℕ) : Type 0 where
-  pub within : r ≤ marks_in map
-  pub before : (k : ℕ) → k < r → formed map k ≡ true
-  pub bad : r < marks_in map → formed map r ≡ false
+-- the records before r are formed
+abbrev pub FormedBefore : List ℕ → ℕ → Type 0
+FormedBefore map r = (k : ℕ) → k < r → formed map k ≡ true
+
+-- r is the first record that is not formed
+pub record Malformed (map : List ℕ) (r : ℕ) : Type 0 where
+  pub within : r < marks_in map
+  pub before : FormedBefore map r
+  pub bad : formed map r ≡ false
+
+-- the first record that is not formed, or none
+abbrev pub Formed : List ℕ → Option ℕ → Type 0
+Formed map (Some r) = Malformed map r
+Formed map None = FormedBefore map (marks_in map)
 
 -- "strictly ascending address"
 pub record Ascending (map : List ℕ) : Type 0 where
@@ -28,8 +38,6 @@ pub record Found (map : List ℕ) (p r : ℕ) : Type 0 where
   pub below : (k : ℕ) → k < r → (mark_at map k).address < p
   pub above : (k : ℕ) → r ≤ k → k < marks_in map → p ≤ (mark_at map k).address
 
--- r is the need of the mark of p with this kind and height, or, where there is none, 65536: a test of needs that 65536 fails says the same
--- of r as of the map
-pub record NeedAt (map : List ℕ) (p kind height r : ℕ) : Type 0 where
-  pub within : r ≤ 65536
-  pub tells : (f : ℕ → Bool) → f 65536 ≡ false → f r ≡ (marked map λ s. is_mark p kind height s && f s.need)
+-- r is the need of the mark of p with this kind and height, if there is one: a test of needs says the same of r as of the map
+pub record NeedAt (map : List ℕ) (p kind height : ℕ) (r : Option ℕ) : Type 0 where
+  pub tells : (f : ℕ → Bool) → option_map_or f r false ≡ (marked map λ s. is_mark p kind height s && f s.need)

@@ -13,9 +13,6 @@ pub(crate) const ROUTINE: u8 = 2;
 
 pub(crate) const HANDLER: u8 = 3;
 
-// More than any need or room.
-const NONE: usize = 65536;
-
 pub(crate) fn mark_at(map: &[u8], i: usize) -> Mark
     requires { i < marks_in map.now }
     ensures { result ≡ mark_at map.now i }
@@ -34,12 +31,7 @@ fn ascends(map: &[u8], i: usize) -> bool
     requires { i < marks_in map.now }
     ensures { result ≡ ascends map.now i }
 {
-    if i == 0 {
-        return true;
-    }
-    let before = mark_at(map, i - 1);
-    let m = mark_at(map, i);
-    before.address < m.address
+    i == 0 || mark_at(map, i - 1).address < mark_at(map, i).address
 }
 
 // "kind (1 main, 2 routine, 3 handler), height, need, three zeros"
@@ -48,38 +40,23 @@ fn is_formed(map: &[u8], i: usize) -> bool
     ensures { result ≡ formed map.now i }
 {
     let k = 8 * i;
-    let kind = map[k + 2];
-    if kind < MAIN {
-        return false;
-    }
-    if kind > HANDLER {
-        return false;
-    }
-    if map[k + 5] != 0 {
-        return false;
-    }
-    if map[k + 6] != 0 {
-        return false;
-    }
-    if map[k + 7] != 0 {
-        return false;
-    }
-    ascends(map, i)
+    (MAIN..=HANDLER).contains(&map[k + 2])
+        && map[k + 5] == 0
+        && map[k + 6] == 0
+        && map[k + 7] == 0
+        && ascends(map, i)
 }
 
-// 11: the first record that is "malformed or not ascending"; where there is none, how many there are.
-pub(crate) fn first_malformed(map: &[u8]) -> usize
+// 11: the first record that is "malformed or not ascending".
+pub(crate) fn first_malformed(map: &[u8]) -> Option<usize>
     ensures { Formed map.now result }
 {
-    let n = map.len() / 8;
-    let mut i: usize = 0;
-    while i < n {
+    for i in 0..map.len() / 8 {
         if !is_formed(map, i) {
-            return i;
+            return Some(i);
         }
-        i = i + 1;
     }
-    n
+    None
 }
 
 // The first record whose address is not below this one, by halving; where there is none, how many there are.
@@ -118,27 +95,18 @@ fn find(map: &[u8], address: u16, likely: usize) -> usize
 fn is_mark(m: Mark, address: u16, kind: u8, height: u16) -> bool
     ensures { result ≡ is_mark address kind height m }
 {
-    if m.address != address {
-        return false;
-    }
-    if m.kind != kind {
-        return false;
-    }
-    m.height as u16 == height
+    m.address == address && m.kind == kind && m.height as u16 == height
 }
 
-// The need of the record with this address, kind and height, which is likely to be this record; where there is none, NONE.
-pub(crate) fn need_at(map: &[u8], address: u16, kind: u8, height: u16, likely: usize) -> usize
+// The need of the record with this address, kind and height, which is likely to be this record.
+pub(crate) fn need_at(map: &[u8], address: u16, kind: u8, height: u16, likely: usize) -> Option<u8>
     requires { Ascending map.now }
     ensures { NeedAt map.now address kind height result }
 {
     let i = find(map, address, likely);
     if i == map.len() / 8 {
-        return NONE;
+        return None;
     }
     let m = mark_at(map, i);
-    if is_mark(m, address, kind, height) {
-        return m.need as usize;
-    }
-    NONE
+    is_mark(m, address, kind, height).then_some(m.need)
 }

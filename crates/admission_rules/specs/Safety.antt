@@ -8,14 +8,13 @@
 --   every instruction run is one the map names [Fine.named],
 --   only pushes write the stack page [Fine.only],
 --   and the bytes on the stack since the last reset or stack-pointer load [Stacked] stay between 0 and 256 [Fine.least, Fine.most].
-use Rattle.std.specs.Prelude.{ℕ, zero, suc, ◌+◌, ◌*◌, ◌/◌, ◌<◌, ◌≤◌, ◌≡◌, true, false, ◌&&◌, List, [], ◌∷◌, eqb, length, drop}
+use Rattle.std.specs.Prelude.{ℕ, zero, suc, ◌+◌, ◌*◌, ◌/◌, ◌<◌, ◌≤◌, ◌≡◌, true, false, ◌&&◌, List, [], ◌∷◌, eqb, length, drop, Ok}
 use Rattle.rules.specs.declared.State.{State}
 use Rattle.rules.specs.declared.Stacking.TheVariants.{Php, Plp, Pha, Pla, Rts, Rti}
 use Rattle.rules.specs.declared.Instruction.{Instruction}
 use Rattle.rules.specs.declared.Instruction.TheVariants.{Read, Store, Change, Accumulator, Implied, AtStack, Branch, Jump, JumpIndirect}
 use Rattle.rules.specs.declared.Instruction.TheVariants.{Jsr, Brk, Txs, Cli, Undefined}
 use Rattle.rules.specs.declared.StepAnswer.TheVariants.{Stepped}
-use Rattle.rules.specs.declared.Verdict.TheVariants.{Accepted}
 use Rattle.rules.specs.Basics.{when◌then◌else◌, at, address, sum16}
 use Rattle.rules.specs.Opcodes.{decode, instruction_of}
 use Rattle.rules.specs.Operations.{stack, down}
@@ -179,4 +178,4 @@ Safe m c map =
 
 -- the demand: what admission accepts is safe
 abbrev pub Demand3 : Type 0
-Demand3 = (m : List ℕ) (c : ℕ) (map : List ℕ) → admit images m c map ≡ Accepted → Safe m c map
+Demand3 = (m : List ℕ) (c : ℕ) (map : List ℕ) → admit images m c map ≡ Ok tt → Safe m c map

@@ -257,13 +257,6 @@ pub enum AppendAnswer {
     Full(Refusal),
 }
 
-// Admission.
-#[derive(Clone, Copy)]
-pub enum Verdict {
-    Accepted,
-    Barred(Refusal),
-}
-
 // Whether a list of accesses was counted.
 #[derive(Clone, Copy)]
 pub enum CountAnswer {

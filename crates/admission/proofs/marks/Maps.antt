@@ -1,5 +1,5 @@
 -- What the searches of a map say of it.
-use Rattle.std.proofs.Common.{◌≡◌, ℕ, zero, suc, ◌-◌, ◌<◌, ◌≤◌, Bool, true, false, ◌&&◌, ◌||◌, ltb, List, sym, refl, ◌∙◌, arith, ne_eqb}
+use Rattle.std.proofs.Common.{◌≡◌, ℕ, zero, suc, ◌-◌, ◌<◌, ◌≤◌, Bool, true, false, ◌&&◌, ◌||◌, ltb, List, sym, refl, arith, ne_eqb}
 use native.Mathlib.Decide.{dec_le, ℕ_discrete}
 use Rattle.admission_rules.specs.Admission.{mark_at, marks_in, some, marked, is_mark, ascends}
 use Rattle.admission_rules.specs.declared.Mark.{Mark}
@@ -49,15 +49,9 @@ module _ (map : List ℕ) (asc : Ascending map) (p kind height r : ℕ) (found :
   pub unmarked : r ≡ marks_in map → marked map so ≡ false
   unmarked e = none_so map so (marks_in map) (λ k l. elsewhere k (λ d. omega (arith, found.below k (omega arith))))
 
-  here : r < marks_in map → marked map so ≡ so (mark_at map r)
+  pub here : r < marks_in map → marked map so ≡ so (mark_at map r)
   here h = one-so map so (marks_in map) r h (λ k l d. elsewhere k (λ e. go k l d e (dec_le r k)))
     where
       go : (k : ℕ) → k < marks_in map → (k ≡ r → ⊥) → (mark_at map k).address ≡ p → Dec (r ≤ k) → ⊥
       go k l d e (yes q) = omega (arith, asc.ascends r k (omega arith) l, found.above r (omega arith) h)
       go k l d e (no q) = omega (arith, found.below k (omega arith))
-
-  pub marked-so : r < marks_in map → is_mark p kind height (mark_at map r) ≡ true → f (mark_at map r).need ≡ marked map so
-  marked-so h e = sym (here h ∙ (rw e))
-
-  pub marked_other : r < marks_in map → is_mark p kind height (mark_at map r) ≡ false → marked map so ≡ false
-  marked_other h e = here h ∙ (rw e)

@@ -8,37 +8,39 @@ returns-then-not-input_fits c =
     let a = c.args in
     sym (unfit a.image.now a.c a.map.now (sym c.input_fits.ensures ∙ c.if-not-input_fits.true))
 
-pub returns-then-bad-map : goal.returns-then-bad-map
-returns-then-bad-map c =
+pub returns-in-Some : goal.returns-in-Some
+returns-in-Some c =
     let a = c.args in
     let fit = sym c.input_fits.ensures ∙ c.if-not-input_fits.false in
-    sym (bad_record a.image.now a.c a.map.now fit _ c.first_malformed-bad.ensures c.if-bad-map.true)
+    let bad = rw c.in-Some.is at c.first_malformed.ensures in
+    sym (bad_record a.image.now a.c a.map.now fit _ bad)
 
 pub vectors_hold-requires : goal.vectors_hold-requires
 vectors_hold-requires c =
     let a = c.args in
     let fit = sym c.input_fits.ensures ∙ c.if-not-input_fits.false in
-    let up = ascending _ _ c.first_malformed-bad.ensures c.if-bad-map.false in
-    ((lengths_fit a.image.now a.c a.map.now fit).0, up)
+    let formed = rw c.in_default.is at c.first_malformed.ensures in
+    ((lengths_fit a.image.now a.c a.map.now fit).0, ascending _ formed)
 
 pub returns-then-not-vectors_hold : goal.returns-then-not-vectors_hold
 returns-then-not-vectors_hold c =
     let a = c.args in
     let fit = sym c.input_fits.ensures ∙ c.if-not-input_fits.false in
+    let formed = rw c.in_default.is at c.first_malformed.ensures in
     let none = sym c.vectors_hold.ensures ∙ c.if-not-vectors_hold.true in
-    sym (bad_vectors a.image.now a.c a.map.now fit _ c.first_malformed-bad.ensures c.if-bad-map.false none)
+    sym (bad_vectors a.image.now a.c a.map.now fit formed none)
 
 pub judge-requires : goal.judge-requires
 judge-requires c =
     let a = c.args in
     let fit = sym c.input_fits.ensures ∙ c.if-not-input_fits.false in
-    let up = ascending _ _ c.first_malformed-bad.ensures c.if-bad-map.false in
-    (lengths_fit a.image.now a.c a.map.now fit, up)
+    let formed = rw c.in_default.is at c.first_malformed.ensures in
+    (lengths_fit a.image.now a.c a.map.now fit, ascending _ formed)
 
 pub returns : goal.returns
 returns c =
     let a = c.args in
     let fit = sym c.input_fits.ensures ∙ c.if-not-input_fits.false in
+    let formed = rw c.in_default.is at c.first_malformed.ensures in
     let held = sym c.vectors_hold.ensures ∙ c.if-not-vectors_hold.false in
-    c.judge.ensures
-    ∙ sym (records_left a.image.now a.c a.map.now fit _ c.first_malformed-bad.ensures c.if-bad-map.false held)
+    c.judge.ensures ∙ sym (records_left a.image.now a.c a.map.now fit formed held)
