@@ -27,7 +27,7 @@ module _ (m : List ℕ) (c : ℕ) (map : List ℕ) (i : ℕ) (k : Mark) (here : 
 
   -- the instruction x that is decoded of the opcode and the two bytes after it, and its size n
   module _
-      (kept : 256 - c ≤ k.address / 256) (low high n : ℕ) (x : Instruction) (bytes : (j : ℕ) → at m j < 256)
+      (kept : 256 - c ≤ k.address / 256) (low high n : ℕ) (x : Instruction) (byte : at m k.address < 256)
       (first : low ≡ at m (sum16 k.address 1)) (second : high ≡ at m (sum16 k.address 2))
       (decoded : x ≡ instruction_of (decode (at m k.address)) low high) (sized : n ≡ size_in 3 x)
     where
@@ -35,7 +35,7 @@ module _ (m : List ℕ) (c : ℕ) (map : List ℕ) (i : ℕ) (k : Mark) (here : 
       is = rw here at decoded
 
       long : n ≡ size
-      long = (rw is at sized) ∙ size_is low high (at m p) (bytes p)
+      long = (rw is at sized) ∙ size_is low high (at m p) (rw here at byte)
 
       place_kept : is_protected c p ≡ true
       place_kept = le-leb (256 - c) (p / 256) (rw here at kept)
