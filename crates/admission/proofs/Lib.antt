@@ -1,4 +1,5 @@
 pub mod Admitted
+pub mod Chunks
 pub mod Forms
 pub mod Judged
 pub mod Records

@@ -8,8 +8,8 @@ use mathlib.Core.List.{List, [], ◌∷◌, ◌++◌}
 use borrow.Author.Tests.{eqb-true, leb-true}
 use lib.Dec.{eqb, leb}
 use lib.ListN.{length}
-use Rattle.rules.specs.declared.Verdict.{Verdict}
-use Rattle.rules.specs.declared.Verdict.TheVariants.{Accepted, Barred}
+use Rattle.std.specs.Prelude.{Result, Ok, Err}
+use Rattle.rules.specs.declared.Refusal.{Refusal}
 use Rattle.rules.specs.Bus.{Memory, images}
 use Rattle.rules.specs.Answers.{Test}
 use Rattle.admission_rules.specs.Admission.{marks_in, of_records, mark_tests, input_fits, vectors_hold, rule_tests, admission_tests, admit}
@@ -99,12 +99,12 @@ module _ {M : Type 0} (memory : Memory M) (m : M) (c : ℕ) (map : List ℕ) whe
         records = λ i l. record_holds (rule_tests memory m c map) 0 n (search hold_after) i (omega arith) (omega arith);
       }
 
-  pub accepts : AllRules → admit memory m c map ≡ Accepted
+  pub accepts : AllRules → admit memory m c map ≡ Ok tt
   unfolding admit
-  accepts a = tested_all tests Barred Accepted (hold_all a)
+  accepts a = tested_all tests Err (Ok tt) (hold_all a)
 
-  pub accepted : admit memory m c map ≡ Accepted → AllRules
+  pub accepted : admit memory m c map ≡ Ok tt → AllRules
   unfolding admit
   accepted =
-      tested_case (λ (v : Verdict). v ≡ Accepted → AllRules) tests Barred Accepted
+      tested_case (λ (v : Result (Unit {0}) Refusal). v ≡ Ok tt → AllRules) tests Err (Ok tt)
       (λ e h. let z : ◌≡◌ {A = ℕ} 0 1 = cc in absurd (omega arith)) (λ h e. all_hold h)

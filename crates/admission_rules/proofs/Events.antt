@@ -20,8 +20,7 @@ use Rattle.rules.specs.declared.Event.{Event}
 use Rattle.rules.specs.declared.Event.TheVariants.{Res, Nmi, Irq, Execute}
 use Rattle.rules.specs.Interrupts.{res_of, nmi_of, irq_of, event_of, interrupt, reset, cycles_of}
 use Rattle.rules.specs.Bus.{is_protected}
-use Rattle.admission_rules.specs.declared.Rules.{Rules}
-use Rattle.admission_rules.specs.Admission.{mark_at, marks_in, tests_of, rules_of, rules_at}
+use Rattle.admission_rules.specs.Admission.{Rules, mark_at, marks_in, tests_of, rules_of, rules_at}
 use Rattle.admission_rules.specs.Safety.{Stacked, Effect, clears, pushes, effect_of, effect_at, Unaltered}
 use Rattle.laws.proofs.Tests.{Hold, and_left, and_right}
 use Rattle.laws.proofs.Entries.{fetched_by}

@@ -7,7 +7,7 @@ use mathlib.Core.List.{List}
 use borrow.Author.Tests.{eqb-true, leb-true}
 use lib.Dec.{eqb, leb}
 use lib.ListN.{length}
-use Rattle.rules.specs.declared.Verdict.TheVariants.{Accepted}
+use Rattle.std.specs.Prelude.{Ok}
 use Rattle.rules.specs.Bus.{images}
 use Rattle.admission_rules.specs.declared.Mark.{Mark}
 use Rattle.admission_rules.specs.Admission.{main, handler, mark_at, marks_in, some, is_mark, vector_at, vectors_hold, rule_tests, admit}
@@ -80,7 +80,7 @@ module _ (m : List ℕ) (c : ℕ) (map : List ℕ) where
   abbrev serves : Mark → Mark → Bool
   serves r h = is_handler h && leb (r.need + h.need + 3) 256
 
-  pub admitted : admit images m c map ≡ Accepted → Admitted m c map
+  pub admitted : admit images m c map ≡ Ok tt → Admitted m c map
   unfolding vectors_hold
   admitted e =
       let t = accepted images m c map e in

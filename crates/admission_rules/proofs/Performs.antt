@@ -29,10 +29,10 @@ use Rattle.rules.specs.Opcodes.{size_of, decode}
 use Rattle.rules.specs.Operations.{stack, down, with_pc, used, taken, target, branch_to, push, pull, rts, rti, jsr, perform}
 use Rattle.rules.specs.Bus.{is_protected}
 use Rattle.admission_rules.specs.declared.Mark.{Mark}
-use Rattle.admission_rules.specs.declared.Rules.{Rules}
-use Rattle.admission_rules.specs.declared.Rules.TheVariants as rules
+use Rattle.std.specs.Prelude.{Ok, Err}
+use Rattle.admission_rules.specs.declared.Successors.TheVariants as successors
 use Rattle.admission_rules.specs.Admission.{mark_at, main, routine, handler, reached, tests_of, one, goes_on, goes_up, goes_down}
-use Rattle.admission_rules.specs.Admission.{is_at_zero, rules_of}
+use Rattle.admission_rules.specs.Admission.{Rules, is_at_zero, rules_of}
 use Rattle.admission_rules.specs.Safety.{Stacked, Effect, none, pushes, effect_of, stacked_after, pushes_of}
 use Rattle.laws.proofs.Tests.{Hold, if_case, and_left, and_right}
 use Rattle.admission_rules.proofs.Stacks.{Stands, Leads, starts, alone, stays, pushes_one, pulls_one, calls, returns, goes_back}
@@ -216,7 +216,7 @@ module _ (m₀ : List ℕ) (c : ℕ) (map : List ℕ) (ad : Admitted m₀ c map)
         (pushed_image m u.s x r.s h g.image))
 
     -- a rule of 15 holds, and the rules r behind it
-    behind : (b : Bool) (r : Rules) → Hold (tests_of map v.i (when b then r else rules.Broken (Stack v.i))) →
+    behind : (b : Bool) (r : Rules) → Hold (tests_of map v.i (when b then r else Err (Stack v.i))) →
         (b ≡ true) × Hold (tests_of map v.i r)
     behind b r t = unbroken map v.i b (Stack v.i) r t
 
@@ -230,7 +230,7 @@ module _ (m₀ : List ℕ) (c : ℕ) (map : List ℕ) (ad : Admitted m₀ c map)
         g.image
 
     abbrev none_follows : Rules
-    none_follows = rules.Leads 0 (goes_on mark n) (goes_on mark n)
+    none_follows = Ok successors.None
 
     at_zero : (kind : ℕ) → is_at_zero mark kind ≡ true → (mark.kind ≡ kind) × (mark.height ≡ 0)
     at_zero kind h =

@@ -17,9 +17,9 @@ use Rattle.rules.specs.Basics.{when◌then◌else◌, address, sum16}
 use Rattle.rules.specs.Cycles.{Bank, execution, indirect, ◌>>=◌}
 use Rattle.rules.specs.Addressing.{load, place, pointer, zero_indexed, indexed, crosses, load_indexed}
 use Rattle.admission_rules.specs.declared.Successor.{Successor}
-use Rattle.admission_rules.specs.declared.Rules.{Rules}
-use Rattle.admission_rules.specs.declared.Rules.TheVariants.{Broken}
-use Rattle.admission_rules.specs.Admission.{reached, tests_of, one, outside, store_rules}
+use Rattle.std.specs.Prelude.{Ok, Err}
+use Rattle.std.specs.Result.{result_and}
+use Rattle.admission_rules.specs.Admission.{Rules, reached, tests_of, one, outside, store_rules}
 use Rattle.laws.proofs.Tests.{Hold, if_case}
 use Rattle.admission_rules.proofs.Calm.{OffPage, Calm}
 
@@ -80,12 +80,17 @@ pub record Stored (map : List ℕ) (c : Cpu) (d : Mode) (s : Successor) : Type 0
 
 module _ (map : List ℕ) (i : ℕ) where
   -- the rules of a record that are asked where one of its own holds
-  pub unbroken : (b : Bool) (e : Refusal) (r : Rules) → Hold (tests_of map i (when b then r else Broken e)) →
+  pub unbroken : (b : Bool) (e : Refusal) (r : Rules) → Hold (tests_of map i (when b then r else Err e)) →
       (b ≡ true) × Hold (tests_of map i r)
   unbroken true e r t = (refl, t)
   unbroken false e r t = absurd (false≢true t.0)
 
-  pub place_calm : (c : Cpu) (d : Mode) (s : Successor) → Bytes c → Small d → Hold (tests_of map i (store_rules i d (one s))) →
+  first_unbroken : (b : Bool) (e : Refusal) (r : Rules) → Hold (tests_of map i (result_and (when b then Ok (tt {0}) else Err e) r)) →
+      (b ≡ true) × Hold (tests_of map i r)
+  first_unbroken true e r t = (refl, t)
+  first_unbroken false e r t = absurd (false≢true t.0)
+
+  pub place_calm : (c : Cpu) (d : Mode) (s : Successor) → Bytes c → Small d → Hold (tests_of map i (result_and (store_rules i d) (one s))) →
       Stored map c d s
   unfolding place zero_indexed pointer indexed ◌>>=◌
   place_calm c (Immediate v) s b h t = record { calm = λ e. omega arith; follows = t.0 }
@@ -93,13 +98,13 @@ module _ (map : List ℕ) (i : ℕ) where
   place_calm c (ZeroX z) s b h t = record { calm = λ u o e. omega arith; follows = t.0 }
   place_calm c (ZeroY z) s b h t = record { calm = λ u o e. omega arith; follows = t.0 }
   place_calm c (Absolute low high) s b h t =
-      let u = unbroken (outside 0x0100 (address low high)) (StoreAddress i) (one s) t in
+      let u = first_unbroken (outside 0x0100 (address low high)) (StoreAddress i) (one s) t in
       record { calm = λ e. not_within 256 (address low high) 511 u.0 (omega arith) (omega arith); follows = u.1.0 }
   place_calm c (AbsoluteX low high) s b h t =
-      let u = unbroken (outside 0x0001 (address low high)) (StoreAddress i) (one s) t in
+      let u = first_unbroken (outside 0x0001 (address low high)) (StoreAddress i) (one s) t in
       record { calm = λ v o. base_off (address low high) c.x h b.x u.0; follows = u.1.0 }
   place_calm c (AbsoluteY low high) s b h t =
-      let u = unbroken (outside 0x0001 (address low high)) (StoreAddress i) (one s) t in
+      let u = first_unbroken (outside 0x0001 (address low high)) (StoreAddress i) (one s) t in
       record { calm = λ v o. base_off (address low high) c.y h b.y u.0; follows = u.1.0 }
   place_calm c (IndirectX z) s b h t = absurd (false≢true t.0)
   place_calm c (IndirectY z) s b h t = absurd (false≢true t.0)

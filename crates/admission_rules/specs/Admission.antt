@@ -1,6 +1,7 @@
 -- Admission: the rules of the map as tests with their numbers, and the verdict.
 use Rattle.std.specs.Prelude.{ℕ, zero, suc, ◌+◌, ◌-◌, ◌*◌, ◌/◌, ◌%◌, Bool, true, false, not, ◌&&◌, ◌||◌, List, [], ◌∷◌, ◌++◌, ltb, leb}
-use Rattle.std.specs.Prelude.{eqb, length, take}
+use Rattle.std.specs.Prelude.{eqb, length, Result, Ok, Err}
+use Rattle.std.specs.Result.{result_and}
 use Rattle.rules.specs.declared.Mode.{Mode}
 use Rattle.rules.specs.declared.Mode.TheVariants.{Immediate, Zero, ZeroX, ZeroY, Absolute, AbsoluteX, AbsoluteY, IndirectX, IndirectY}
 use Rattle.rules.specs.declared.Mode.TheVariants.{IndirectBankY}
@@ -8,10 +9,9 @@ use Rattle.rules.specs.declared.Stacking.TheVariants.{Php, Plp, Pha, Pla, Rts, R
 use Rattle.rules.specs.declared.Instruction.{Instruction}
 use Rattle.rules.specs.declared.Instruction.TheVariants.{Read, Store, Change, Accumulator, Implied, AtStack, Branch, Jump, JumpIndirect}
 use Rattle.rules.specs.declared.Instruction.TheVariants.{Jsr, Brk, Txs, Cli, Undefined}
+use Rattle.rules.specs.declared.Refusal.{Refusal}
 use Rattle.rules.specs.declared.Refusal.TheVariants.{Admission, MapRecord, Vectors, Place, StoreAddress, Stack}
 use Rattle.rules.specs.declared.Refusal.TheVariants as refusal
-use Rattle.rules.specs.declared.Verdict.{Verdict}
-use Rattle.rules.specs.declared.Verdict.TheVariants.{Accepted, Barred}
 use Rattle.rules.specs.Basics.{when◌then◌else◌, at, address, sum16}
 use Rattle.rules.specs.Opcodes.{decode, size_of, instruction_of}
 use Rattle.rules.specs.Operations.{target}
@@ -19,8 +19,8 @@ use Rattle.rules.specs.Bus.{is_protected, Memory}
 use Rattle.rules.specs.Answers.{Test, ◌unless◌, tested}
 use Rattle.admission_rules.specs.declared.Mark.{Mark}
 use Rattle.admission_rules.specs.declared.Successor.{Successor}
-use Rattle.admission_rules.specs.declared.Rules.{Rules}
-use Rattle.admission_rules.specs.declared.Rules.TheVariants.{Broken, Leads}
+use Rattle.admission_rules.specs.declared.Successors.{Successors}
+use Rattle.admission_rules.specs.declared.Successors.TheVariants.{None, One, Two}
 
 -- "kind (1 main, 2 routine, 3 handler)"
 abbrev pub main : ℕ
@@ -74,30 +74,36 @@ mark_tests map i =
 abbrev pub reached : List ℕ → Successor → Bool
 reached map s = marked map λ n. is_mark s.address s.kind s.height n && leb (n.need + s.more) s.limit
 
+-- What the rules of a record come to: one of 13 to 15 is broken, or (16) these successors are asked for.
+abbrev pub Rules : Type 0
+Rules = Result Successors Refusal
+
 -- the rules of record i as tests
 abbrev pub tests_of : List ℕ → ℕ → Rules → List Test
-tests_of map i (Broken e) = e unless false ∷ []
-tests_of map i (Leads n s t) = take n (refusal.Successor i unless reached map s ∷ refusal.Successor i unless reached map t ∷ [])
+tests_of map i (Err e) = e unless false ∷ []
+tests_of map i (Ok None) = []
+tests_of map i (Ok (One s)) = refusal.Successor i unless reached map s ∷ []
+tests_of map i (Ok (Two s t)) = refusal.Successor i unless reached map s ∷ refusal.Successor i unless reached map t ∷ []
 
 abbrev pub one : Successor → Rules
-one s = Leads 1 s s
+one s = Ok (One s)
 
 -- an address that is not from this one to 01FF
 abbrev pub outside : ℕ → ℕ → Bool
 outside least a = not (leb least a && leb a 0x01FF)
 
--- "Stores, shifts, INC, DEC: absolute address not 0100 to 01FF; a,X or a,Y base not 0001 to 01FF"; "not .. 81, 91"; and then the rules r
-abbrev pub store_rules : ℕ → Mode → Rules → Rules
-store_rules i (Immediate v) r = r
-store_rules i (Zero z) r = r
-store_rules i (ZeroX z) r = r
-store_rules i (ZeroY z) r = r
-store_rules i (Absolute low high) r = when outside 0x0100 (address low high) then r else Broken (StoreAddress i)
-store_rules i (AbsoluteX low high) r = when outside 0x0001 (address low high) then r else Broken (StoreAddress i)
-store_rules i (AbsoluteY low high) r = when outside 0x0001 (address low high) then r else Broken (StoreAddress i)
-store_rules i (IndirectX z) r = Broken (Place i)
-store_rules i (IndirectY z) r = Broken (Place i)
-store_rules i (IndirectBankY z) r = Broken (Place i)
+-- "Stores, shifts, INC, DEC: absolute address not 0100 to 01FF; a,X or a,Y base not 0001 to 01FF"; "not .. 81, 91"
+abbrev pub store_rules : ℕ → Mode → Result (Unit {0}) Refusal
+store_rules i (Immediate v) = Ok tt
+store_rules i (Zero z) = Ok tt
+store_rules i (ZeroX z) = Ok tt
+store_rules i (ZeroY z) = Ok tt
+store_rules i (Absolute low high) = when outside 0x0100 (address low high) then Ok tt else Err (StoreAddress i)
+store_rules i (AbsoluteX low high) = when outside 0x0001 (address low high) then Ok tt else Err (StoreAddress i)
+store_rules i (AbsoluteY low high) = when outside 0x0001 (address low high) then Ok tt else Err (StoreAddress i)
+store_rules i (IndirectX z) = Err (Place i)
+store_rules i (IndirectY z) = Err (Place i)
+store_rules i (IndirectBankY z) = Err (Place i)
 
 module _ (mark : Mark) where
   -- "Each successor .. is marked with the same kind"
@@ -130,24 +136,24 @@ module _ (mark : Mark) where
   module _ (i next second : ℕ) where
     abbrev pub rules_of : Instruction → Rules
     rules_of (Read o md) = one (goes_on next)
-    rules_of (Store o md) = store_rules i md (one (goes_on next))
-    rules_of (Change o md) = store_rules i md (one (goes_on next))
+    rules_of (Store o md) = result_and (store_rules i md) (one (goes_on next))
+    rules_of (Change o md) = result_and (store_rules i md) (one (goes_on next))
     rules_of (Accumulator o) = one (goes_on next)
     rules_of (Implied o) = one (goes_on next)
     rules_of (AtStack Php) = one (goes_up next)
-    rules_of (AtStack Plp) = Broken (Place i)
+    rules_of (AtStack Plp) = Err (Place i)
     rules_of (AtStack Pha) = one (goes_up next)
-    rules_of (AtStack Pla) = when leb 1 mark.height then one (goes_down next) else Broken (Stack i)
-    rules_of (AtStack Rts) = when is_at_zero routine then Leads 0 (goes_on next) (goes_on next) else Broken (Stack i)
-    rules_of (AtStack Rti) = when is_at_zero handler then Leads 0 (goes_on next) (goes_on next) else Broken (Stack i)
-    rules_of (Branch t o) = Leads 2 (goes_on next) (goes_on (target next o))
+    rules_of (AtStack Pla) = when leb 1 mark.height then one (goes_down next) else Err (Stack i)
+    rules_of (AtStack Rts) = when is_at_zero routine then Ok None else Err (Stack i)
+    rules_of (AtStack Rti) = when is_at_zero handler then Ok None else Err (Stack i)
+    rules_of (Branch t o) = Ok (Two (goes_on next) (goes_on (target next o)))
     rules_of (Jump low high) = one (goes_on (address low high))
-    rules_of (JumpIndirect low high) = Broken (Place i)
-    rules_of (Jsr low) = Leads 2 (goes_on next) (calls (address low second))
-    rules_of Brk = Broken (Place i)
-    rules_of Txs = when is_at_zero main then one (goes_on next) else Broken (Stack i)
-    rules_of Cli = when eqb mark.kind main then one (goes_on next) else Broken (Stack i)
-    rules_of Undefined = Broken (Place i)
+    rules_of (JumpIndirect low high) = Err (Place i)
+    rules_of (Jsr low) = Ok (Two (goes_on next) (calls (address low second)))
+    rules_of Brk = Err (Place i)
+    rules_of Txs = when is_at_zero main then one (goes_on next) else Err (Stack i)
+    rules_of Cli = when eqb mark.kind main then one (goes_on next) else Err (Stack i)
+    rules_of Undefined = Err (Place i)
 
 module _ {M : Type 0} (memory : Memory M) (m : M) where
   abbrev pub vector_at : ℕ → ℕ
@@ -174,7 +180,7 @@ module _ {M : Type 0} (memory : Memory M) (m : M) where
         let high = memory.peek m (sum16 p 2) in
         when is_protected c p && leb (p + size_of entry) 65536
         then rules_of mark i (sum16 p (size_of entry)) high (instruction_of entry (memory.peek m (sum16 p 1)) high)
-        else Broken (Place i)
+        else Err (Place i)
 
     abbrev pub rule_tests : ℕ → List Test
     rule_tests i = tests_of map i (rules_at i)
@@ -185,5 +191,5 @@ module _ {M : Type 0} (memory : Memory M) (m : M) where
         Admission unless input_fits ∷ of_records (mark_tests map) 0 (marks_in map) ++
         Vectors unless vectors_hold map ∷ of_records rule_tests 0 (marks_in map)
 
-    unfoldable pub admit : Verdict
-    admit = tested admission_tests Barred Accepted
+    unfoldable pub admit : Result (Unit {0}) Refusal
+    admit = tested admission_tests Err (Ok tt)

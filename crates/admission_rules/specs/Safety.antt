@@ -14,7 +14,6 @@ use Rattle.rules.specs.declared.Stacking.TheVariants.{Php, Plp, Pha, Pla, Rts, R
 use Rattle.rules.specs.declared.Instruction.{Instruction}
 use Rattle.rules.specs.declared.Instruction.TheVariants.{Read, Store, Change, Accumulator, Implied, AtStack, Branch, Jump, JumpIndirect}
 use Rattle.rules.specs.declared.Instruction.TheVariants.{Jsr, Brk, Txs, Cli, Undefined}
-use Rattle.rules.specs.declared.Verdict.TheVariants.{Accepted}
 use Rattle.rules.specs.Basics.{when◌then◌else◌, at, address, sum16}
 use Rattle.rules.specs.Opcodes.{decode, instruction_of}
 use Rattle.rules.specs.Operations.{stack, down}
@@ -178,4 +177,4 @@ Safe m c map =
 
 -- the demand: what admission accepts is safe
 abbrev pub Demand3 : Type 0
-Demand3 = (m : List ℕ) (c : ℕ) (map : List ℕ) → admit images m c map ≡ Accepted → Safe m c map
+Demand3 = (m : List ℕ) (c : ℕ) (map : List ℕ) → admit images m c map ≡ Ok tt → Safe m c map

@@ -2,8 +2,6 @@
 
 #![tactic(auto)]
 
-use rules::Refusal;
-
 // A record of the map.
 #[derive(Clone, Copy)]
 pub struct Mark {
@@ -23,9 +21,10 @@ pub struct Successor {
     pub limit: u16,
 }
 
-// What the rules of a record come to: one of 13 to 15 is broken, or (16) the first so many of two successors are asked for.
+// What 16 asks of a record: how many successors, and which.
 #[derive(Clone, Copy)]
-pub enum Rules {
-    Broken(Refusal),
-    Leads(u8, Successor, Successor),
+pub enum Successors {
+    None,
+    One(Successor),
+    Two(Successor, Successor),
 }

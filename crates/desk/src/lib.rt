@@ -12,7 +12,7 @@ ghost use Rattle.assembly_rules.specs.Assembly.{told, assembly_word, assemble_wo
 ghost use Rattle.assembly_rules.specs.Listing.{listing_word, list_words};
 
 use assembly_rules::{Assembly, Listing};
-use rules::{CountAnswer, Verdict};
+use rules::CountAnswer;
 
 // "from bit 16 on", which leaves 48 bits for a count.
 fn told(number: u8, count: usize) -> u64
@@ -45,8 +45,8 @@ pub fn wankitare_admit(image: &[u8], c: u8, map: &[u8]) -> u64
     ensures safe { result ≡ 0 → Safe image.now c map.now }
 {
     match admission::admit(image, c, map) {
-        Verdict::Accepted => 0,
-        Verdict::Barred(e) => words::refusal_word(e),
+        Ok(()) => 0,
+        Err(e) => words::refusal_word(e),
     }
 }
 

@@ -6,8 +6,6 @@ use Rattle.rules.specs.declared.Refusal.TheVariants.{FileLength, Admission, MapR
 use Rattle.rules.specs.declared.Refusal.TheVariants.{Successor, ListLength, ListRecord, Total}
 use Rattle.rules.specs.declared.Numbers.{Numbers}
 use Rattle.rules.specs.declared.Found.{Found}
-use Rattle.rules.specs.declared.Verdict.{Verdict}
-use Rattle.rules.specs.declared.Verdict.TheVariants.{Accepted, Barred}
 use Rattle.rules.specs.declared.CountAnswer.{CountAnswer}
 use Rattle.rules.specs.declared.CountAnswer.TheVariants.{Counted, Uncounted}
 use Rattle.rules.specs.Basics.{when◌then◌else◌}
@@ -98,9 +96,9 @@ restart_word = word_of (λ f. record { number = 0; small = f.tail; large = f.at 
 abbrev pub append_word : Result ℕ Refusal → ℕ
 append_word = word_of (λ place. record { number = 0; small = 0; large = place })
 
-abbrev pub verdict_word : Verdict → ℕ
-verdict_word Accepted = 0
-verdict_word (Barred e) = refusal_word e
+abbrev pub verdict_word : Result (Unit {0}) Refusal → ℕ
+verdict_word (Ok v) = 0
+verdict_word (Err e) = refusal_word e
 
 abbrev pub count_word : CountAnswer → ℕ
 count_word Counted = 0

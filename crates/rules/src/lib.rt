@@ -229,13 +229,6 @@ pub struct Found {
     pub tail: u8,
 }
 
-// Admission.
-#[derive(Clone, Copy)]
-pub enum Verdict {
-    Accepted,
-    Barred(Refusal),
-}
-
 // Whether a list of accesses was counted.
 #[derive(Clone, Copy)]
 pub enum CountAnswer {

@@ -1,9 +1,12 @@
-use Rattle.std.proofs.Common.{ℕ, ◌+◌, leb, arith}
-use borrow.Author.Tests.{lt-leb}
+use Rattle.std.proofs.Common.{ℕ, ◌+◌, leb}
 use Rattle.admission.proofs.is_reached.Goals as goal
 
-pub returns : goal.returns
-returns c =
+pub returns-in-Some : goal.returns-in-Some
+returns-in-Some c =
     let s = c.args.s in
-    let tells = c.need_at.ensures.tells in
-    tells (λ (x : ℕ). leb (x + s.more) s.limit) (lt-leb (65536 + s.more) s.limit (omega arith))
+    rw c.in-Some.is at (c.need_at.ensures.tells (λ (x : ℕ). leb (x + s.more) s.limit))
+
+pub returns-in-None : goal.returns-in-None
+returns-in-None c =
+    let s = c.args.s in
+    rw c.in-None.is at (c.need_at.ensures.tells (λ (x : ℕ). leb (x + s.more) s.limit))

@@ -1,9 +1,13 @@
 -- What the searches of a map say of it.
-use Rattle.std.proofs.Common.{◌≡◌, ℕ, zero, suc, ◌-◌, ◌<◌, ◌≤◌, Bool, true, false, ◌&&◌, ◌||◌, ltb, List, sym, refl, ◌∙◌, arith, ne_eqb}
+use Rattle.std.proofs.Common.{◌≡◌, ℕ, zero, suc, ◌-◌, ◌<◌, ◌≤◌, Bool, true, false, ◌&&◌, ◌||◌, ltb, List, [], length, get_or, sym, ap, refl, ◌∙◌, arith}
+use Rattle.std.proofs.Common.{ne_eqb, ltb-true, ltb-false}
 use native.Mathlib.Decide.{dec_le, ℕ_discrete}
 use Rattle.admission_rules.specs.Admission.{mark_at, marks_in, some, marked, is_mark, ascends}
 use Rattle.admission_rules.specs.declared.Mark.{Mark}
-use Rattle.admission.specs.Maps.{Ascending, Found}
+use Rattle.std.specs.List.Sorted.{IsPartitionedBy, IsPartitionPoint}
+use Rattle.std.proofs.lemmas.List.Sorted.{IsPartitionedBy-ltb, IsNonDecreasingBy-from_default}
+use Rattle.admission.specs.Maps.{bytes_of, mark_of, Ascending, Found}
+use Rattle.admission.proofs.Chunks.{marks_in-bytes_of, mark_at-bytes_of}
 
 pub ascends-first : (map : List ℕ) (i : ℕ) → i ≡ 0 → true ≡ ascends map i
 ascends-first map i e = rw e
@@ -23,6 +27,41 @@ in_order map asc j k h n = go (ℕ_discrete j k)
 or-false : (b : Bool) → (b || false) ≡ b
 or-false true = refl
 or-false false = refl
+
+-- what a search by parts of its records says of a map
+module _ (rs : List (List ℕ)) (p : ℕ) where
+  abbrev address_of : List ℕ → ℕ
+  address_of r = (mark_of r).address
+
+  at-bytes : (k : ℕ) → k < length rs → (mark_at (bytes_of rs) k).address ≡ address_of (get_or rs k [])
+  at-bytes k h = ap (λ (m : Mark). m.address) (mark_at-bytes_of rs k h)
+
+  pub parted : Ascending (bytes_of rs) → IsPartitionedBy (λ r. ltb (address_of r) p) rs
+  parted asc =
+      let within = marks_in-bytes_of rs in
+      IsPartitionedBy-ltb address_of rs p
+      (IsNonDecreasingBy-from_default address_of rs []
+      (λ i j h l. rw (← at-bytes i (omega arith), ← at-bytes j l) (in_order _ asc i j h (omega arith))))
+
+  pub found : (r : ℕ) → r ≤ length rs →
+      IsPartitionPoint (λ y. ltb (address_of y) p ≡ true) (λ y. ltb (address_of y) p ≡ false) rs r → Found (bytes_of rs) p r
+  found r h part =
+      let within = marks_in-bytes_of rs in
+      record {
+        within = omega arith;
+        below = λ k l. rw (at-bytes k (omega arith)) (ltb-true _ _ (part.0 k [] (omega arith) l));
+        above = λ k l n. rw (at-bytes k (omega arith)) (ltb-false _ _ (part.1 k [] l (omega arith)));
+      }
+
+  pub found_at : Ascending (bytes_of rs) → (r : ℕ) → r < length rs → address_of (get_or rs r []) ≡ p → Found (bytes_of rs) p r
+  found_at asc r h e =
+      let within = marks_in-bytes_of rs in
+      let here = at-bytes r h ∙ e in
+      record {
+        within = omega arith;
+        below = λ k l. omega (arith, here, asc.ascends k r l (omega arith));
+        above = λ k l n. omega (arith, here, in_order _ asc r k l n);
+      }
 
 -- none of the marks is as f says, or at most one of them
 module _ (map : List ℕ) (f : Mark → Bool) where
@@ -49,15 +88,9 @@ module _ (map : List ℕ) (asc : Ascending map) (p kind height r : ℕ) (found :
   pub unmarked : r ≡ marks_in map → marked map so ≡ false
   unmarked e = none_so map so (marks_in map) (λ k l. elsewhere k (λ d. omega (arith, found.below k (omega arith))))
 
-  here : r < marks_in map → marked map so ≡ so (mark_at map r)
+  pub here : r < marks_in map → marked map so ≡ so (mark_at map r)
   here h = one-so map so (marks_in map) r h (λ k l d. elsewhere k (λ e. go k l d e (dec_le r k)))
     where
       go : (k : ℕ) → k < marks_in map → (k ≡ r → ⊥) → (mark_at map k).address ≡ p → Dec (r ≤ k) → ⊥
       go k l d e (yes q) = omega (arith, asc.ascends r k (omega arith) l, found.above r (omega arith) h)
       go k l d e (no q) = omega (arith, found.below k (omega arith))
-
-  pub marked-so : r < marks_in map → is_mark p kind height (mark_at map r) ≡ true → f (mark_at map r).need ≡ marked map so
-  marked-so h e = sym (here h ∙ (rw e))
-
-  pub marked_other : r < marks_in map → is_mark p kind height (mark_at map r) ≡ false → marked map so ≡ false
-  marked_other h e = here h ∙ (rw e)

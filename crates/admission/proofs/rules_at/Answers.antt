@@ -1,4 +1,4 @@
-use Rattle.std.proofs.Common.{arith}
+use Rattle.std.proofs.Common.{refl}
 use Rattle.admission.proofs.Records.{unprotected, too_long, its_own}
 use Rattle.admission.proofs.rules_at.Goals as goal
 
@@ -10,14 +10,15 @@ returns-then-a-c c =
 pub returns-then-a-size-gt65536 : goal.returns-then-a-size-gt65536
 returns-then-a-size-gt65536 c =
     let a = c.args in
-    too_long a.image.now a.c a.map.now a.i _ c.mark_at-m.ensures c.if-a-c.false _ _ _ _
-    (λ j. omega (arith, c.type_inv.image j)) c.byte_after-low.ensures c.byte_after-high.ensures
-    c.decode-instruction.ensures c.size_of-size.ensures c.if-a-size-gt65536.true
+    let byte = rw c.peek-opcode.ensures at c.peek-opcode.type_inv in
+    let decoded = rw c.peek-opcode.ensures at c.decode-instruction.ensures in
+    too_long a.image.now a.c a.map.now a.i _ c.mark_at-m.ensures c.if-a-c.false _ _ _ _ byte c.peek-low.ensures
+    c.peek-high.ensures decoded c.size_of-size.ensures c.if-a-size-gt65536.true
 
 pub returns : goal.returns
 returns c =
     let a = c.args in
-    its_own a.image.now a.c a.map.now a.i _ c.mark_at-m.ensures c.if-a-c.false _ _ _ _
-    (λ j. omega (arith, c.type_inv.image j)) c.byte_after-low.ensures c.byte_after-high.ensures
-    c.decode-instruction.ensures c.size_of-size.ensures c.if-a-size-gt65536.false _ _ c.wrapping_add_u16-next.ensures.value
-    c.rules_for.ensures
+    let byte = rw c.peek-opcode.ensures at c.peek-opcode.type_inv in
+    let decoded = rw c.peek-opcode.ensures at c.decode-instruction.ensures in
+    its_own a.image.now a.c a.map.now a.i _ c.mark_at-m.ensures c.if-a-c.false _ _ _ _ byte c.peek-low.ensures
+    c.peek-high.ensures decoded c.size_of-size.ensures c.if-a-size-gt65536.false _ _ refl c.rules_for.ensures

@@ -1,10 +1,15 @@
-use Rattle.admission_rules.specs.Admission.{vectors_hold}
-use Rattle.admission.proofs.Rooms.{rooms}
+use Rattle.admission.proofs.Rooms.{no_main, no_handler, rooms}
 use Rattle.admission.proofs.vectors_hold.Goals as goal
 
+pub returns-in_default : goal.returns-in_default
+returns-in_default c = no_main _ _ _ _ c.vector_at.ensures c.need_at.ensures c.in_default.is
+
+pub returns-in_default-need_at : goal.returns-in_default-need_at
+returns-in_default-need_at c =
+    no_handler _ _ _ _ c.vector_at.ensures c.need_at.ensures _ _ c.in-Some.is _ c.vector_at-2.ensures c.need_at-2.ensures
+    c.in_default-need_at.is
+
 pub returns : goal.returns
-unfolding vectors_hold
 returns c =
-    let main = rw c.vector_at.ensures at c.need_at-main.ensures in
-    let handler = rw c.vector_at-2.ensures at c.need_at-handler.ensures in
-    rooms _ _ _ _ _ main handler
+    rooms _ _ _ _ c.vector_at.ensures c.need_at.ensures _ _ c.in-Some.is _ c.vector_at-2.ensures c.need_at-2.ensures _
+    c.in-Some-need_at.is
