@@ -1,5 +1,5 @@
 -- How a call is refused, and the numbers of every answer.
-use Rattle.std.specs.Prelude.{ℕ, ◌+◌, ◌*◌, Bool, List, [], ◌∷◌}
+use Rattle.std.specs.Prelude.{ℕ, ◌+◌, ◌*◌, Bool, List, [], ◌∷◌, Result, Ok, Err}
 use Rattle.rules.specs.declared.Refusal.{Refusal}
 use Rattle.rules.specs.declared.Refusal.TheVariants.{RecordLength, Malformed, ImageLength, Lines, Room, Undefined, ScriptLength}
 use Rattle.rules.specs.declared.Refusal.TheVariants.{FileLength, Admission, MapRecord, Vectors, Place, StoreAddress, Stack}
@@ -15,8 +15,6 @@ use Rattle.rules.specs.declared.AppendAnswer.{AppendAnswer}
 use Rattle.rules.specs.declared.AppendAnswer.TheVariants.{At, Full}
 use Rattle.rules.specs.declared.Verdict.{Verdict}
 use Rattle.rules.specs.declared.Verdict.TheVariants.{Accepted, Barred}
-use Rattle.rules.specs.declared.CountAnswer.{CountAnswer}
-use Rattle.rules.specs.declared.CountAnswer.TheVariants.{Counted, Uncounted}
 use Rattle.rules.specs.Basics.{when◌then◌else◌}
 
 -- A test, and the refusal where it fails.
@@ -94,6 +92,6 @@ abbrev pub verdict_word : Verdict → ℕ
 verdict_word Accepted = 0
 verdict_word (Barred e) = refusal_word e
 
-abbrev pub count_word : CountAnswer → ℕ
-count_word Counted = 0
-count_word (Uncounted e) = refusal_word e
+abbrev pub count_word : Result (Unit {0}) Refusal → ℕ
+count_word (Ok u) = 0
+count_word (Err e) = refusal_word e
