@@ -6,8 +6,8 @@ use contract.Lifetimes.{Lfts}
 use borrow.Fn.Kinds.{Dens, ended_of}
 use denote.Triple.Clauses.{AtExit}
 use lib.ListN.{length}
-use Rattle.rules.specs.declared.CountAnswer.{CountAnswer}
-use Rattle.rules.specs.declared.CountAnswer.TheVariants.{Counted, Uncounted}
+use Rattle.std.specs.Prelude.{Result, Ok, Err}
+use Rattle.rules.specs.declared.Refusal.{Refusal}
 use Rattle.rules.specs.declared.Counting.{Counting}
 use Rattle.rules.specs.Answers.{count_word}
 use Rattle.rules.specs.Pages.{sum, records_in, counting, count_tests, fed, PageWords, page_words}
@@ -18,16 +18,16 @@ use Rattle.desk.proofs.wankitare_pages.Kinds as kinds
 use Rattle.desk.proofs.wankitare_pages.Reads as reads
 
 -- the word 0 says that the list was counted
-counted : (b : CountAnswer) → count_word b ≡ 0 → b ≡ Counted
-counted Counted h = refl
-counted (Uncounted e) h = absurd (nonzero e h)
+counted : (b : Result (Unit {0}) Refusal) → count_word b ≡ 0 → b ≡ Ok tt
+counted (Ok u) h = refl
+counted (Err e) h = absurd (nonzero e h)
 
 -- what a list that is not counted leaves
-stays : (r w l : List ℕ) → ((fed r w l).answer ≡ Counted → ⊥) → ((fed r w l).reads ≡ r) × ((fed r w l).writes ≡ w)
+stays : (r w l : List ℕ) → ((fed r w l).answer ≡ Ok tt → ⊥) → ((fed r w l).reads ≡ r) × ((fed r w l).writes ≡ w)
 unfolding fed
 stays r w l =
-    tested_case (λ (k : Counting). (k.answer ≡ Counted → ⊥) → (k.reads ≡ r) × (k.writes ≡ w)) (count_tests r w l)
-    (λ e. counting (Uncounted e) r w) _ (λ e h. (refl, refl)) (λ hs h. absurd (h refl))
+    tested_case (λ (k : Counting). (k.answer ≡ Ok tt → ⊥) → (k.reads ≡ r) × (k.writes ≡ w)) (count_tests r w l)
+    (λ e. counting (Err e) r w) _ (λ e h. (refl, refl)) (λ hs h. absurd (h refl))
 
 module _ (κs : Lfts 3) (a : Dens κs kinds.ps) (x : ℕ) (t : AtExit (ended_of 3 kinds.ps kinds.r) κs) where
   -- the counts as they were lent and as they were left, and the list

@@ -12,7 +12,6 @@ ghost use Rattle.assembly_rules.specs.Assembly.{told, assembly_word, assemble_wo
 ghost use Rattle.assembly_rules.specs.Listing.{listing_word, list_words};
 
 use assembly_rules::{Assembly, Listing};
-use rules::CountAnswer;
 
 // "from bit 16 on", which leaves 48 bits for a count.
 fn told(number: u8, count: usize) -> u64
@@ -55,8 +54,8 @@ pub fn wankitare_pages(reads: &mut [u64; 256], writes: &mut [u64; 256], accesses
         ≡ page_words (fed reads.old writes.old accesses.now) }
 {
     match pages::feed(reads, writes, accesses) {
-        CountAnswer::Counted => 0,
-        CountAnswer::Uncounted(e) => words::refusal_word(e),
+        Ok(()) => 0,
+        Err(why) => words::refusal_word(why),
     }
 }
 

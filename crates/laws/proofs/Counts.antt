@@ -12,7 +12,7 @@ use lib.Seq.{get_or-append-add}
 use borrow.Author.Tests.{leb-true, eqb-true}
 use Rattle.rules.specs.Basics.{when◌then◌else◌, all, bit, at}
 use Rattle.rules.specs.declared.Refusal.{Refusal}
-use Rattle.rules.specs.declared.CountAnswer.TheVariants.{Counted, Uncounted}
+use Rattle.std.specs.Prelude.{Result, Ok, Err}
 use Rattle.rules.specs.declared.Counting.{Counting}
 use Rattle.rules.specs.Answers.{Test, tested}
 use Rattle.rules.specs.Pages.{page_of, kind_of, is_record, raised, counted, sum, records_in, count_tests, counting, fed}
@@ -164,20 +164,20 @@ module _ (l m : List ℕ) (whole : length l % 8 ≡ 0) where
     counted_behind (suc n) =
         let e : records_in l + suc n ≡ suc (records_in l + n) = omega arith in rw (e, behind n 4, behind n 1, counted_behind n)
 
-apart : (e : Refusal) → Uncounted e ≡ Counted → ⊥
+apart : (e : Refusal) → ◌≡◌ {A = Result (Unit {0}) Refusal} (Err e) (Ok tt) → ⊥
 apart e h = let z : ◌≡◌ {A = ℕ} 0 1 = cc in omega arith
 
 -- What was counted passed every test, and what passes every test is counted.
 module _ (r w l : List ℕ) where
-  pub fed_holds : (fed r w l).answer ≡ Counted → Hold (count_tests r w l)
+  pub fed_holds : (fed r w l).answer ≡ Ok tt → Hold (count_tests r w l)
   unfolding fed
   fed_holds =
-      tested_case (λ (k : Counting). k.answer ≡ Counted → Hold (count_tests r w l)) (count_tests r w l) (λ e. counting (Uncounted e) r w) _
+      tested_case (λ (k : Counting). k.answer ≡ Ok tt → Hold (count_tests r w l)) (count_tests r w l) (λ e. counting (Err e) r w) _
       (λ e h. absurd (apart e h)) (λ hs h. hs)
 
-  pub fed_counted : Hold (count_tests r w l) → fed r w l ≡ counting Counted (counted 0 r l (records_in l)) (counted 1 w l (records_in l))
+  pub fed_counted : Hold (count_tests r w l) → fed r w l ≡ counting (Ok tt) (counted 0 r l (records_in l)) (counted 1 w l (records_in l))
   unfolding fed
-  fed_counted hs = tested_all (count_tests r w l) (λ e. counting (Uncounted e) r w) _ hs
+  fed_counted hs = tested_all (count_tests r w l) (λ e. counting (Err e) r w) _ hs
 
 -- "From any number of access lists fed one after another .. The counts equal those of the joined list": where l was counted, the tests of
 -- m on what l left are the tests of l ++ m on what was there before l; and so are the counts.
@@ -197,29 +197,29 @@ module _ (r w l m : List ℕ) (pages : length r ≡ 256) (pages' : length w ≡ 
       let s : sum r + sum w + (records_in l + records_in m) ≡ sum reads + sum writes + records_in m = omega arith in
       rw (rest_joined l m whole, all_joined l m whole, first.1.0, and_true (all (records_in m) (is_record m)), records_joined l m whole, s)
 
-  pub joined : fed r w (l ++ m) ≡ tested (count_tests reads writes m) (λ e. counting (Uncounted e) r w)
-      (counting Counted (counted 0 reads m (records_in m)) (counted 1 writes m (records_in m)))
+  pub joined : fed r w (l ++ m) ≡ tested (count_tests reads writes m) (λ e. counting (Err e) r w)
+      (counting (Ok tt) (counted 0 reads m (records_in m)) (counted 1 writes m (records_in m)))
   unfolding fed
   joined =
       ap
-      (λ (ts : List Test). tested ts (λ e. counting (Uncounted e) r w)
-      (counting Counted (counted 0 r (l ++ m) (records_in (l ++ m))) (counted 1 w (l ++ m) (records_in (l ++ m))))) joined_tests
+      (λ (ts : List Test). tested ts (λ e. counting (Err e) r w)
+      (counting (Ok tt) (counted 0 r (l ++ m) (records_in (l ++ m))) (counted 1 w (l ++ m) (records_in (l ++ m))))) joined_tests
       ∙ (rw (records_joined l m whole, counted_behind l m whole 0 r (records_in m), counted_behind l m whole 1 w (records_in m)))
 
 -- a list that is counted, and then another, leave what both joined leave
-pub fed_joined : (r w l m : List ℕ) → length r ≡ 256 → length w ≡ 256 → Bytes l → (fed r w l).answer ≡ Counted →
-    (fed (fed r w l).reads (fed r w l).writes m).answer ≡ Counted → fed r w (l ++ m) ≡ fed (fed r w l).reads (fed r w l).writes m
+pub fed_joined : (r w l m : List ℕ) → length r ≡ 256 → length w ≡ 256 → Bytes l → (fed r w l).answer ≡ Ok tt →
+    (fed (fed r w l).reads (fed r w l).writes m).answer ≡ Ok tt → fed r w (l ++ m) ≡ fed (fed r w l).reads (fed r w l).writes m
 fed_joined r w l m pages pages' bytes e =
     let hs = fed_holds r w l e in
     rw (fed_counted r w l hs)
     (λ k.
     let ks = fed_holds _ _ m k in
     joined r w l m pages pages' bytes hs
-    ∙ tested_all (count_tests (counted 0 r l (records_in l)) (counted 1 w l (records_in l)) m) (λ e. counting (Uncounted e) r w) _ ks
+    ∙ tested_all (count_tests (counted 0 r l (records_in l)) (counted 1 w l (records_in l)) m) (λ e. counting (Err e) r w) _ ks
     ∙ sym (fed_counted _ _ m ks))
 
 -- "their sum is the number of records"
-pub fed_total : (r w l : List ℕ) → length r ≡ 256 → length w ≡ 256 → Bytes l → (fed r w l).answer ≡ Counted →
+pub fed_total : (r w l : List ℕ) → length r ≡ 256 → length w ≡ 256 → Bytes l → (fed r w l).answer ≡ Ok tt →
     sum (fed r w l).reads + sum (fed r w l).writes ≡ sum r + sum w + records_in l
 fed_total r w l pages pages' bytes e =
     let hs = fed_holds r w l e in rw (fed_counted r w l hs) (total r w l pages pages' bytes (records_in l) hs.1.0)

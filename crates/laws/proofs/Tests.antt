@@ -1,11 +1,13 @@
 -- Tests: over a range of numbers, joined by &&, and in order.
 use Prim.Native.Nat.{ℕ, zero, suc, ◌<◌}
+use native.Mathlib.Omega.{arith}
 use native.Mathlib.Nat.{le_of_suc-le-suc, not-suc-le-zero}
 use native.Mathlib.Decide.{ℕ_discrete}
-use mathlib.Core.Path.{◌≡◌, refl, sym, subst}
+use mathlib.Core.Path.{◌≡◌, refl, sym, subst, ◌∙◌}
 use mathlib.Core.Bool.{Bool, true, false, ◌&&◌, false≢true}
 use mathlib.Core.List.{List, [], ◌∷◌, ◌++◌}
 use lib.Arith.{lt_of_le-ne}
+use Rattle.std.specs.Prelude.{Result, Ok, Err}
 use Rattle.rules.specs.declared.Refusal.{Refusal}
 use Rattle.rules.specs.Basics.{when◌then◌else◌, all}
 use Rattle.rules.specs.Answers.{Test, tested}
@@ -69,3 +71,15 @@ pub tested_append : {A : Type 0} (ts us : List Test) (refuse : Refusal → A) (a
     tested (ts ++ us) refuse a ≡ tested ts refuse (tested us refuse a)
 tested_append [] us refuse a = refl
 tested_append (t ∷ ts) us refuse a = rw (tested_append ts us refuse a)
+
+-- What a function answers of tests by a `Result` says how any other answer comes out.
+module _ {A : Type 0} (ts : List Test) (refuse : Refusal → A) (a : A) (r : Result (Unit {0}) Refusal) where
+  pub tested_refused : (e : Refusal) → r ≡ tested ts Err (Ok tt) → r ≡ Err e → tested ts refuse a ≡ refuse e
+  tested_refused e h is =
+      tested_both (λ (s : Result (Unit {0}) Refusal) (x : A). s ≡ Err e → x ≡ refuse e) ts Err refuse (Ok tt) a
+      (λ d i. let same : d ≡ e = cc in rw same) (λ i. let z : ◌≡◌ {A = ℕ} 0 1 = cc in absurd (omega arith)) (sym h ∙ is)
+
+  pub tested_passed : r ≡ tested ts Err (Ok tt) → r ≡ Ok tt → tested ts refuse a ≡ a
+  tested_passed h is =
+      tested_both (λ (s : Result (Unit {0}) Refusal) (x : A). s ≡ Ok tt → x ≡ a) ts Err refuse (Ok tt) a
+      (λ d i. let z : ◌≡◌ {A = ℕ} 0 1 = cc in absurd (omega arith)) (λ i. refl) (sym h ∙ is)

@@ -5,7 +5,7 @@
 ghost use Rattle.std.specs.Prelude.{◌<◌, ◌≤◌, length, take, IsNone};
 ghost use Rattle.std.specs.Io.KnownBytes.{Consumes, IsAtEnd};
 
-use rules::{CountAnswer, Counting};
+use rules::Counting;
 use std::env::{Env, FillError};
 use std::fs::{File, Files};
 use std::io;
@@ -139,13 +139,6 @@ fn take_named(
     }
 }
 
-fn is_counted(counts: Counting) -> bool {
-    match counts.answer {
-        CountAnswer::Counted => true,
-        CountAnswer::Uncounted(_) => false,
-    }
-}
-
 // The files in the order of the arguments, to the first that cannot be read or counted.
 fn take_files(rt: &(impl Env + Files + Eprint + Alloc)) -> io::Result<Option<Counting>> {
     let mut name = [0u8; NAME];
@@ -155,7 +148,7 @@ fn take_files(rt: &(impl Env + Files + Eprint + Alloc)) -> io::Result<Option<Cou
             Ok(size) => match take_named(rt, &name[..size], counts)? {
                 Some(taken) => {
                     counts = taken;
-                    if !is_counted(counts) {
+                    if counts.answer.is_err() {
                         break;
                     }
                 }

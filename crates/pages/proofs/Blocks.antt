@@ -9,7 +9,7 @@ use lib.Dec.{ltb}
 use lib.ListN.{length}
 use Rattle.rules.specs.declared.Refusal.{Refusal}
 use Rattle.rules.specs.declared.Refusal.TheVariants.{ListRecord, Total}
-use Rattle.rules.specs.declared.CountAnswer.TheVariants.{Counted, Uncounted}
+use Rattle.std.specs.Prelude.{Ok, Err}
 use Rattle.rules.specs.declared.Counting.{Counting}
 use Rattle.rules.specs.Basics.{when◌then◌else◌, all}
 use Rattle.rules.specs.Answers.{tested}
@@ -22,13 +22,13 @@ use Rattle.pages.proofs.Feeding.{malformed, full}
 
 -- what feeding a block answers, and what becomes of the blocks before it
 record Becomes (k k' : Counting) : Type 0 where
-  counts : k.answer ≡ Counted → k ≡ k'
-  refuses : (e : Refusal) → k.answer ≡ Uncounted e → refused_by e ≡ k'
+  counts : k.answer ≡ Ok tt → k ≡ k'
+  refuses : (e : Refusal) → k.answer ≡ Err e → refused_by e ≡ k'
 
-becomes : (r w m : List ℕ) → Becomes (fed r w m) (onward Counted r w m)
+becomes : (r w m : List ℕ) → Becomes (fed r w m) (onward (Ok tt) r w m)
 unfolding fed
 becomes r w m =
-    tested_both Becomes (count_tests r w m) (λ e. counting (Uncounted e) r w) refused_by _ _
+    tested_both Becomes (count_tests r w m) (λ e. counting (Err e) r w) refused_by _ _
     (λ e.
     record {
       counts = λ h. let z : ◌≡◌ {A = ℕ} 0 1 = cc in absurd (omega arith);
@@ -40,15 +40,15 @@ none_length : length none ≡ 256
 unfolding none
 none_length = refl
 
-pub nothing : counting Counted none none ≡ counting_of []
+pub nothing : counting (Ok tt) none none ≡ counting_of []
 unfolding fed sum none counted
 nothing = refl
 
 -- a block after blocks that are counted
-pub block_counted : (r w m r' w' : List ℕ) → counting Counted r' w' ≡ fed r w m → counting Counted r' w' ≡ onward Counted r w m
+pub block_counted : (r w m r' w' : List ℕ) → counting (Ok tt) r' w' ≡ fed r w m → counting (Ok tt) r' w' ≡ onward (Ok tt) r w m
 block_counted r w m r' w' e = e ∙ (becomes r w m).counts (λ i. (sym e i).answer)
 
-pub block_refused : (r w m r' w' : List ℕ) (d : Refusal) → counting (Uncounted d) r' w' ≡ fed r w m → refused_by d ≡ onward Counted r w m
+pub block_refused : (r w m r' w' : List ℕ) (d : Refusal) → counting (Err d) r' w' ≡ fed r w m → refused_by d ≡ onward (Ok tt) r w m
 block_refused r w m r' w' d e = (becomes r w m).refuses d (λ i. (sym e i).answer)
 
 -- Of a list l of whole records and a block m behind it.

@@ -10,12 +10,11 @@ use lib.Dec.{ltb, eqb}
 use lib.ListN.{length, length-append}
 use lib.Seq.{sets}
 use Rattle.rules.specs.declared.Refusal.TheVariants.{Total}
-use Rattle.rules.specs.declared.CountAnswer.TheVariants.{Counted}
 use Rattle.rules.specs.Basics.{when◌then◌else◌, at}
 use Rattle.rules.specs.Text.{hex, spaced, each, number_line, refusal_line}
 use Rattle.rules.specs.Pages.{sum, page_line, traffic_line, report_text}
 use Rattle.laws.proofs.Tests.{if_case}
-use Rattle.totals.specs.declared.Totalled.TheVariants.{Sum, Passed}
+use Rattle.std.specs.Prelude.{Ok, Some, None}
 use Rattle.totals.specs.Totals.{total_of}
 use Rattle.characters.specs.Shown.{Puts, Shows}
 use Rattle.characters.proofs.Laws.{spaced_most, number_most, puts_piece, puts_append, puts_shown}
@@ -60,12 +59,12 @@ module _ (reads writes : List ℕ) where
       when f then each 256 (traffic_line reads writes) ++ number_line (code "T") (sum reads + sum writes) else refusal_line Total
 
   -- the lines and the total, by what the sum is
-  pub counts_shown : (total at r : ℕ) (t u v : List ℕ) → 11543 ≤ length t → Sum total ≡ total_of (sum reads + sum writes) →
+  pub counts_shown : (total at r : ℕ) (t u v : List ℕ) → 11543 ≤ length t → Some total ≡ total_of (sum reads + sum writes) →
       Puts (each 256 (traffic_line reads writes)) 0 at t u → Puts (number_line (code "T") total) at r u v →
-      Shows (report_text Counted reads writes) r t v
+      Shows (report_text (Ok tt) reads writes) r t v
   counts_shown total at r t u v room e a b = go (ltb (sum reads + sum writes) (2 ^ 64)) e
     where
-      go : (f : Bool) → Sum total ≡ (when f then Sum (sum reads + sum writes) else Passed) →
+      go : (f : Bool) → Some total ≡ (when f then Some (sum reads + sum writes) else None) →
           Shows (reported f) r t v
       go true h =
           let same : total ≡ sum reads + sum writes = cc in
@@ -74,11 +73,11 @@ module _ (reads writes : List ℕ) where
           puts_shown (puts_append a b) (omega (arith, pages_most 256, number_most (code "T") total, size)))
       go false h = let z : ◌≡◌ {A = ℕ} 0 1 = cc in absurd (omega arith)
 
-  pub past_shown : (r : ℕ) (t v : List ℕ) → Passed ≡ total_of (sum reads + sum writes) → Shows (refusal_line Total) r t v →
-      Shows (report_text Counted reads writes) r t v
+  pub past_shown : (r : ℕ) (t v : List ℕ) → None ≡ total_of (sum reads + sum writes) → Shows (refusal_line Total) r t v →
+      Shows (report_text (Ok tt) reads writes) r t v
   past_shown r t v e s = go (ltb (sum reads + sum writes) (2 ^ 64)) e
     where
-      go : (f : Bool) → Passed ≡ (when f then Sum (sum reads + sum writes) else Passed) →
+      go : (f : Bool) → None ≡ (when f then Some (sum reads + sum writes) else None) →
           Shows (reported f) r t v
       go true h = let z : ◌≡◌ {A = ℕ} 0 1 = cc in absurd (omega arith)
       go false h = s

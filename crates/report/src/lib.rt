@@ -2,15 +2,13 @@
 
 #![tactic(auto)]
 
-ghost use Rattle.std.specs.Prelude.{◌+◌, ◌≤◌, ◌≡◌, [], ◌&&◌, eqb, length};
+ghost use Rattle.std.specs.Prelude.{◌+◌, ◌≤◌, ◌≡◌, [], ◌&&◌, eqb, length, Ok};
 ghost use Rattle.rules.specs.Basics.{when◌then◌else◌};
 ghost use Rattle.rules.specs.Text.{each};
 ghost use Rattle.rules.specs.Pages.{page_line, traffic_line, report_text, report_of};
-ghost use Rattle.rules.specs.declared.CountAnswer.TheVariants.{Counted};
 ghost use Rattle.characters.specs.Shown.{Puts, Shows};
 
-use rules::{CountAnswer, Counting, Refusal};
-use totals::Totalled;
+use rules::{Counting, Refusal};
 
 // A page, its reads and its writes; answers where the line ends.
 fn put_page(text: &mut [u8], at: usize, page: u8, reads: u64, writes: u64) -> usize
@@ -28,10 +26,7 @@ fn put_page(text: &mut [u8], at: usize, page: u8, reads: u64, writes: u64) -> us
 fn is_idle(reads: u64, writes: u64) -> bool
     ensures { result ≡ (eqb reads 0 && eqb writes 0) }
 {
-    if reads == 0 {
-        return writes == 0;
-    }
-    false
+    reads == 0 && writes == 0
 }
 
 // "one line per page with any traffic"
@@ -46,8 +41,8 @@ fn put_traffic(text: &mut [u8], at: usize, page: u8, reads: u64, writes: u64) ->
     put_page(text, at, page, reads, writes)
 }
 
-fn put_pages(text: &mut [u8], reads: &[u64], writes: &[u64]) -> usize
-    requires { (11543 ≤ length text.old) × ((length reads.now ≡ 256) × (length writes.now ≡ 256)) }
+fn put_pages(text: &mut [u8], reads: &[u64; 256], writes: &[u64; 256]) -> usize
+    requires { 11543 ≤ length text.old }
     ensures { Puts (each 256 (traffic_line reads.now writes.now)) 0 result text.old text.new }
 {
     let mut at = 0;
@@ -60,16 +55,16 @@ fn put_pages(text: &mut [u8], reads: &[u64], writes: &[u64]) -> usize
 }
 
 // "then the total"
-fn put_counts(text: &mut [u8], reads: &[u64], writes: &[u64]) -> usize
-    requires { (11543 ≤ length text.old) × ((length reads.now ≡ 256) × (length writes.now ≡ 256)) }
-    ensures { Shows (report_text Counted reads.now writes.now) result text.old text.new }
+fn put_counts(text: &mut [u8], reads: &[u64; 256], writes: &[u64; 256]) -> usize
+    requires { 11543 ≤ length text.old }
+    ensures { Shows (report_text (Ok tt) reads.now writes.now) result text.old text.new }
 {
     match totals::total_of(reads, writes) {
-        Totalled::Sum(total) => {
+        Some(total) => {
             let at = put_pages(text, reads, writes);
             characters::put_number(text, at, b'T', total)
         }
-        Totalled::Passed => characters::put_refusal(text, Refusal::Total),
+        None => characters::put_refusal(text, Refusal::Total),
     }
 }
 
@@ -77,13 +72,8 @@ fn put_counts(text: &mut [u8], reads: &[u64], writes: &[u64]) -> usize
 pub fn print(counts: Counting, text: &mut [u8; 11543]) -> usize
     ensures { Shows (report_of counts) result text.old text.new }
 {
-    let answer = counts.answer;
-    match answer {
-        CountAnswer::Counted => {
-            let reads = counts.reads;
-            let writes = counts.writes;
-            put_counts(text, &reads, &writes)
-        }
-        CountAnswer::Uncounted(e) => characters::put_refusal(text, e),
+    match counts.answer {
+        Ok(()) => put_counts(text, &counts.reads, &counts.writes),
+        Err(e) => characters::put_refusal(text, e),
     }
 }

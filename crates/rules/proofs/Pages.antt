@@ -6,8 +6,8 @@ use mathlib.Core.Bool.{Bool, ◌&&◌}
 use mathlib.Core.List.{List, [], ◌∷◌, ◌++◌}
 use lib.Dec.{eqb}
 use lib.ListN.{length, take, set}
+use Rattle.std.specs.Prelude.{Ok, Err}
 use Rattle.rules.specs.declared.Refusal.TheVariants.{Total}
-use Rattle.rules.specs.declared.CountAnswer.TheVariants.{Counted, Uncounted}
 use Rattle.rules.specs.declared.Counting.{Counting}
 use Rattle.rules.specs.Basics.{at}
 use Rattle.rules.specs.Text.{digits, each, number_line}
@@ -73,10 +73,10 @@ counts =
     ∷ prints (counting_of []) "T 0\n"
     ∷ prints (counting_of (writing ++ set reading 1 0x0A ++ reading ++ reading)) "0A 1 0\n80 2 1\nT 4\n"
     ∷ prints (counting_of (take 7 reading)) "E 20\n"
-    ∷ prints (counting Counted (lent (2 ^ 64 - 1)) none) "80 18446744073709551615 0\nT 18446744073709551615\n"
-    ∷ prints (counting Counted none (lent 10)) "80 0 10\nT 10\n"
-    ∷ prints (counting (Uncounted Total) none none) "E 22\n"
-    ∷ prints (counting Counted (lent (2 ^ 64 - 1)) (lent 1)) "E 22\n"
+    ∷ prints (counting (Ok tt) (lent (2 ^ 64 - 1)) none) "80 18446744073709551615 0\nT 18446744073709551615\n"
+    ∷ prints (counting (Ok tt) none (lent 10)) "80 0 10\nT 10\n"
+    ∷ prints (counting (Err Total) none none) "E 22\n"
+    ∷ prints (counting (Ok tt) (lent (2 ^ 64 - 1)) (lent 1)) "E 22\n"
     ∷ []
 
 computed_counts : failing 1 counts ≡ []

@@ -6,8 +6,6 @@ use Rattle.rules.specs.declared.Refusal.TheVariants.{FileLength, Admission, MapR
 use Rattle.rules.specs.declared.Refusal.TheVariants.{Successor, ListLength, ListRecord, Total}
 use Rattle.rules.specs.declared.Numbers.{Numbers}
 use Rattle.rules.specs.declared.Found.{Found}
-use Rattle.rules.specs.declared.CountAnswer.{CountAnswer}
-use Rattle.rules.specs.declared.CountAnswer.TheVariants.{Counted, Uncounted}
 use Rattle.rules.specs.Basics.{when◌then◌else◌}
 
 -- A test, and the refusal where it fails.
@@ -100,6 +98,6 @@ abbrev pub verdict_word : Result (Unit {0}) Refusal → ℕ
 verdict_word (Ok v) = 0
 verdict_word (Err e) = refusal_word e
 
-abbrev pub count_word : CountAnswer → ℕ
-count_word Counted = 0
-count_word (Uncounted e) = refusal_word e
+abbrev pub count_word : Result (Unit {0}) Refusal → ℕ
+count_word (Ok u) = 0
+count_word (Err e) = refusal_word e

@@ -1,9 +1,9 @@
 -- Document 02, "Cycles by page": the counts of lists of accesses, and what the page report prints of them.
 use Rattle.std.specs.Prelude.{ℕ, zero, suc, ◌+◌, ◌*◌, ◌/◌, ◌%◌, ◌^◌, Bool, ◌&&◌, List, [], ◌∷◌, ◌++◌, ltb, leb, eqb, length, set, replicate}
+use Rattle.std.specs.Prelude.{Result, Ok, Err}
 use Prim.Native.Char.{code}
+use Rattle.rules.specs.declared.Refusal.{Refusal}
 use Rattle.rules.specs.declared.Refusal.TheVariants.{ListLength, ListRecord, Total}
-use Rattle.rules.specs.declared.CountAnswer.{CountAnswer}
-use Rattle.rules.specs.declared.CountAnswer.TheVariants.{Counted, Uncounted}
 use Rattle.rules.specs.declared.Counting.{Counting}
 use Rattle.rules.specs.Basics.{when◌then◌else◌, all, at}
 use Rattle.rules.specs.Answers.{Test, ◌unless◌, tested, count_word}
@@ -49,14 +49,14 @@ form_tests l = ListLength unless eqb (length l % 8) 0 ∷ ListRecord unless all 
 abbrev pub count_tests : List ℕ → List ℕ → List ℕ → List Test
 count_tests reads writes l = form_tests l ++ Total unless ltb (sum reads + sum writes + records_in l) (2 ^ 64) ∷ []
 
-abbrev pub counting : CountAnswer → List ℕ → List ℕ → Counting
+abbrev pub counting : Result (Unit {0}) Refusal → List ℕ → List ℕ → Counting
 counting a reads writes = record { answer = a; reads = reads; writes = writes }
 
 -- A list is fed to the counts. Where it is refused "the counts stay".
 unfoldable pub fed : List ℕ → List ℕ → List ℕ → Counting
 fed reads writes l =
-    tested (count_tests reads writes l) (λ e. counting (Uncounted e) reads writes)
-    (counting Counted (counted 0 reads l (records_in l)) (counted 1 writes l (records_in l)))
+    tested (count_tests reads writes l) (λ e. counting (Err e) reads writes)
+    (counting (Ok tt) (counted 0 reads l (records_in l)) (counted 1 writes l (records_in l)))
 
 -- "starting from all zero"
 unfoldable pub none : List ℕ
@@ -88,11 +88,11 @@ traffic_line reads writes page =
     when eqb r 0 && eqb w 0 then [] else page_line page r w
 
 -- "then the total", which 22 keeps within 64 bits
-abbrev pub report_text : CountAnswer → List ℕ → List ℕ → List ℕ
-report_text Counted reads writes =
+abbrev pub report_text : Result (Unit {0}) Refusal → List ℕ → List ℕ → List ℕ
+report_text (Ok u) reads writes =
     let total = sum reads + sum writes in
     when ltb total (2 ^ 64) then each 256 (traffic_line reads writes) ++ number_line (code "T") total else refusal_line Total
-report_text (Uncounted e) reads writes = refusal_line e
+report_text (Err e) reads writes = refusal_line e
 
 unfoldable pub report_of : Counting → List ℕ
 report_of k = report_text k.answer k.reads k.writes

@@ -229,17 +229,10 @@ pub struct Found {
     pub tail: u8,
 }
 
-// Whether a list of accesses was counted.
-#[derive(Clone, Copy)]
-pub enum CountAnswer {
-    Counted,
-    Uncounted(Refusal),
-}
-
 // The reads and the writes of each page, and whether the list that was fed last is among them.
 #[derive(Clone, Copy)]
 pub struct Counting {
-    pub answer: CountAnswer,
+    pub answer: std::result::Result<(), Refusal>,
     pub reads: [u64; 256],
     pub writes: [u64; 256],
 }

@@ -2,13 +2,14 @@
 use mathlib.Core.Path.{refl, sym, ap, ◌∙◌}
 use mathlib.Core.List.{List}
 use Prim.Native.Nat.{ℕ}
-use Rattle.rules.specs.declared.CountAnswer.{CountAnswer}
+use Rattle.std.specs.Prelude.{Result}
+use Rattle.rules.specs.declared.Refusal.{Refusal}
 use Rattle.rules.specs.declared.Counting.{Counting}
 use Rattle.pages.proofs as its
 use Rattle.unique.proofs.General.{Unique, answer}
 
 -- the answer and the counts, each in the place of its parameter
-abbrev placed : Counting → CountAnswer × (List ℕ × (List ℕ × (Unit {0} × Unit {0})))
+abbrev placed : Counting → Result (Unit {0}) Refusal × (List ℕ × (List ℕ × (Unit {0} × Unit {0})))
 placed k = (k.answer, (k.reads, (k.writes, (tt, tt))))
 
 pub feed : Unique its.feed.Kinds.ps its.feed.Kinds.r its.feed.Reads.Post

@@ -1,11 +1,11 @@
 use Rattle.rules.specs.Pages.{report_of}
 use Rattle.report.proofs.print.Goals as goal
 
-pub returns-in-Counted : goal.returns-in-Counted
+pub returns-in-Ok : goal.returns-in-Ok
 unfolding report_of
-returns-in-Counted c =
-    rw c.in-Counted.is c.put_counts.ensures
+returns-in-Ok c =
+    rw c.in-Ok.is c.put_counts.ensures
 
-pub returns-in-Uncounted : goal.returns-in-Uncounted
+pub returns-in-Err : goal.returns-in-Err
 unfolding report_of
-returns-in-Uncounted c = rw c.in-Uncounted.is c.put_refusal.ensures
+returns-in-Err c = rw c.in-Err.is c.put_refusal.ensures

@@ -9,8 +9,8 @@ put_number-requires c =
     let e = c.put_pages-at.ensures.end in
     search rules
 
-pub returns-in-Sum : goal.returns-in-Sum
-returns-in-Sum c =
-    counts_shown c.args.reads.now c.args.writes.now _ _ _ _ _ _ c.requires.0
-    (sym c.in-Sum.is ∙ c.total_of.ensures) c.put_pages-at.ensures
+pub returns-in-Some : goal.returns-in-Some
+returns-in-Some c =
+    counts_shown c.args.reads.now c.args.writes.now _ _ _ _ _ _ c.requires
+    (sym c.in-Some.is ∙ c.total_of.ensures) c.put_pages-at.ensures
     c.put_number.ensures

@@ -12,7 +12,7 @@ pub put_traffic-at-requires : goal.put_traffic-at-requires
 put_traffic-at-requires c =
     let l = c.loop-page in
     let most = pages_most c.args.reads.now c.args.writes.now l.page in
-    rw l.invariant.size (omega (arith, most, l.invariant.put.end, c.requires.0))
+    rw l.invariant.size (omega (arith, most, l.invariant.put.end, c.requires))
 
 pub loop-page-preserved : goal.loop-page-preserved
 loop-page-preserved c =
