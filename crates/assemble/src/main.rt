@@ -5,7 +5,7 @@
 ghost use Rattle.std.specs.Prelude.{◌<◌, ◌≤◌, length, take, IsNone};
 ghost use Rattle.std.specs.Io.KnownBytes.{Consumes, IsAtEnd};
 
-use assembly_rules::{Assembly, Fault};
+use assembly_rules::Fault;
 use operands::Found;
 use std::env::{Env, FillError};
 use std::io;
@@ -122,8 +122,8 @@ fn refuse(rt: &impl Eprint, e: Fault, line: usize) -> io::Result<()> {
 fn assemble(rt: &(impl Print + Eprint + Alloc), text: &[u8], start: u16) -> io::Result<()> {
     let mut bytes = [0u8; 65536];
     match assembler::assemble(text, start, &mut bytes) {
-        Assembly::Assembled(count) => give(rt, &bytes[0..count]),
-        Assembly::Refused(e, n) => refuse(rt, e, n),
+        Ok(count) => give(rt, &bytes[0..count]),
+        Err(bad) => refuse(rt, bad.fault, bad.line),
     }
 }
 

@@ -1,3 +1,2 @@
 pub mod Laws
 pub mod Passed
-pub mod Within

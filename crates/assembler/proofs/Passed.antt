@@ -1,29 +1,17 @@
 -- What a pass has made so far, line by line.
-use Rattle.std.proofs.Common.{◌≡◌, ℕ, suc, ◌+◌, ◌-◌, ◌<◌, ◌≤◌, Bool, true, false, leb, List, [], ◌∷◌, ◌++◌, length, take, drop, sym, refl}
-use Rattle.std.proofs.Common.{ap, ◌∙◌, add-one, arith, length-append, length-drop, drop-drop, le-leb, leb-true}
-use borrow.Author.Tests.{lt-leb}
+use Rattle.std.proofs.Common.{◌≡◌, ℕ, suc, ◌+◌, ◌≤◌, Bool, true, false, leb, List, [], ◌∷◌, ◌++◌, length, drop, Ok, Err, sym, refl}
+use Rattle.std.proofs.Common.{ap, ◌∙◌, add-one, arith, length-append, length-drop, drop-drop, leb-true}
 use lib.Seq.{sets, sets-eq, drop-append-add, take-append_seam}
 use Rattle.rules.specs.Basics.{when◌then◌else◌, sum16}
 use Rattle.rules.specs.Step.{front}
-use Rattle.operands.proofs.Laws.{none_left}
 use Rattle.assembly_rules.specs.declared.Fault.{Fault}
 use Rattle.assembly_rules.specs.declared.Line.{Line}
 use Rattle.assembly_rules.specs.declared.Line.TheVariants.{Nothing, One, Two, Three, Wrong}
-use Rattle.assembly_rules.specs.declared.Assembly.{Assembly}
-use Rattle.assembly_rules.specs.declared.Assembly.TheVariants.{Assembled, Refused}
+use Rattle.assembly_rules.specs.declared.BadLine.{BadLine}
 use Rattle.assembly_rules.specs.Lines.{line_of}
-use Rattle.assembly_rules.specs.Assembly.{lines_of, Made, made, wrong, fitted, judged, lines, assembled, answer, left}
-use Rattle.assembler.specs.declared.Step.TheVariants.{Stop, Go}
-use Rattle.assembler.specs.declared.Bounds.{Bounds}
+use Rattle.assembly_rules.specs.Assembly.{lines_of, Made, made, wrong, fitted, judged, lines, assembled}
 use Rattle.assembler.specs.Passes.{bytes_of, fitted_to, step_to, Passes}
 use Rattle.assembler.specs.Cuts.{Cuts}
-
-module _ (room count size : ℕ) (h : count ≤ room) where
-  pub no_room : room - count < size → leb (count + size) room ≡ false
-  no_room l = lt-leb (count + size) room (omega arith)
-
-  pub has_room : size ≤ room - count → leb (count + size) room ≡ true
-  has_room l = le-leb (count + size) room (omega arith)
 
 -- A line, where it fits behind those before it and where not.
 pub record Goes (room n count total : ℕ) (before bytes : List ℕ) (go_on : List ℕ → Made) (m : Made) : Type 0 where
@@ -32,34 +20,34 @@ pub record Goes (room n count total : ℕ) (before bytes : List ℕ) (go_on : Li
   pub fits : total ≤ room
 
 module _ (room n count : ℕ) (before : List ℕ) (go_on : List ℕ → Made) (e : length before ≡ count) where
-  fits_go : (total : ℕ) (bytes : List ℕ) → fitted_to room count (length bytes) ≡ Go total →
+  fits_go : (total : ℕ) (bytes : List ℕ) → fitted_to room count (length bytes) ≡ Ok total →
       Goes room n count total before bytes go_on (fitted room n before go_on bytes)
   fits_go total bytes h = rw e (go (leb (count + length bytes) room) refl h)
     where
-      go : (b : Bool) → leb (count + length bytes) room ≡ b → (when b then Go (count + length bytes) else Stop Fault.NoRoom) ≡ Go total →
+      go : (b : Bool) → leb (count + length bytes) room ≡ b → (when b then Ok (count + length bytes) else Err Fault.NoRoom) ≡ Ok total →
           Goes room n count total before bytes go_on (when b then go_on (before ++ bytes) else wrong Fault.NoRoom n)
       go true f g =
           let t : total ≡ count + length bytes = cc in
           record { same = refl; size = t; fits = rw t (leb-true (count + length bytes) room f) }
-      go false f g = let z : ◌≡◌ {A = ℕ} 0 1 = cc in absurd (omega arith)
+      go false f g = cc
 
-  pub judged_go : (total : ℕ) (l : Line) → step_to room count l ≡ Go total →
+  pub judged_go : (total : ℕ) (l : Line) → step_to room count l ≡ Ok total →
       Goes room n count total before (bytes_of l) go_on (judged room n before go_on l)
   judged_go total Nothing h = fits_go total [] h
   judged_go total (One a) h = fits_go total (a ∷ []) h
   judged_go total (Two a b) h = fits_go total (a ∷ b ∷ []) h
   judged_go total (Three a b c) h = fits_go total (a ∷ b ∷ c ∷ []) h
-  judged_go total (Wrong f) h = let z : ◌≡◌ {A = ℕ} 0 1 = cc in absurd (omega arith)
+  judged_go total (Wrong f) h = cc
 
-  fits_stop : (f : Fault) (bytes : List ℕ) → fitted_to room count (length bytes) ≡ Stop f → fitted room n before go_on bytes ≡ wrong f n
+  fits_stop : (f : Fault) (bytes : List ℕ) → fitted_to room count (length bytes) ≡ Err f → fitted room n before go_on bytes ≡ wrong f n
   fits_stop f bytes h = rw e (go (leb (count + length bytes) room) h)
     where
-      go : (b : Bool) → (when b then Go (count + length bytes) else Stop Fault.NoRoom) ≡ Stop f →
+      go : (b : Bool) → (when b then Ok (count + length bytes) else Err Fault.NoRoom) ≡ Err f →
           (when b then go_on (before ++ bytes) else wrong Fault.NoRoom n) ≡ wrong f n
-      go true g = let z : ◌≡◌ {A = ℕ} 0 1 = cc in absurd (omega arith)
+      go true g = cc
       go false g = let t : Fault.NoRoom ≡ f = cc in rw t
 
-  pub judged_stop : (f : Fault) (l : Line) → step_to room count l ≡ Stop f → judged room n before go_on l ≡ wrong f n
+  pub judged_stop : (f : Fault) (l : Line) → step_to room count l ≡ Err f → judged room n before go_on l ≡ wrong f n
   judged_stop f Nothing h = fits_stop f [] h
   judged_stop f (One a) h = fits_stop f (a ∷ []) h
   judged_stop f (Two a b) h = fits_stop f (a ∷ b ∷ []) h
@@ -100,44 +88,27 @@ shown_size : (writing : Bool) (before buffer : List ℕ) → length before ≤ l
 shown_size true before buffer h = front_size before buffer h
 shown_size false before buffer h = refl
 
--- the lines before a place have made these bytes
-pub record Passing (text : List ℕ) (start : ℕ) (buffer : List ℕ) (writing : Bool) (bytes : List ℕ) (at n count : ℕ) : Type 0 where
+-- the lines before the rest have made these bytes
+pub record Passing (text : List ℕ) (start : ℕ) (buffer : List ℕ) (writing : Bool) (bytes rest : List ℕ) (n count : ℕ) : Type 0 where
   pub before : List ℕ
   pub size : length before ≡ count
   pub fits : count ≤ length buffer
-  pub within : at ≤ length text
-  pub few : n ≤ at + 1
-  pub same : assembled start (length buffer) text ≡ lines start (length buffer) n before (lines_of (drop at text))
+  pub few : n + length rest ≤ length text + 1
+  pub same : assembled start (length buffer) text ≡ lines start (length buffer) n before (lines_of rest)
   pub kept : bytes ≡ shown writing before buffer
 
 module _ (text : List ℕ) (start : ℕ) (buffer : List ℕ) (writing : Bool) where
-  pub pass_first : Passing text start buffer writing buffer 0 1 0
-  pass_first =
-      record {
-        before = [];
-        size = refl;
-        fits = omega arith;
-        within = omega arith;
-        few = omega arith;
-        same = refl;
-        kept = start_shown writing;
-      }
-    where
-      start_shown : (w : Bool) → buffer ≡ shown w [] buffer
-      start_shown true = refl
-      start_shown false = refl
-
-  module _ (bytes : List ℕ) (at n count : ℕ) (p : Passing text start buffer writing bytes at n count) where
+  module _ (bytes rest : List ℕ) (n count : ℕ) (p : Passing text start buffer writing bytes rest n count) where
     pub pass_size : length bytes ≡ length buffer
     pass_size = ap length p.kept ∙ shown_size writing p.before buffer (omega (arith, p.size, p.fits))
 
     -- the text's end
-    pub pass_over : length text ≤ at → Passes (assembled start (length buffer) text) writing (Assembled count) buffer bytes
+    pub pass_over : rest ≡ [] → Passes (assembled start (length buffer) text) writing (Ok count) buffer bytes
     unfolding lines lines_of
     pass_over h =
-        let m : assembled start (length buffer) text ≡ made p.before = p.same ∙ (rw (none_left text at h)) in
+        let m : assembled start (length buffer) text ≡ made p.before = p.same ∙ (rw h) in
         record {
-          answered = rw m (ap Assembled (sym p.size));
+          answered = rw m (ap Ok (sym p.size));
           judged = λ w. p.kept ∙ (rw w);
           written =
               λ w all e.
@@ -145,71 +116,41 @@ module _ (text : List ℕ) (start : ℕ) (buffer : List ℕ) (writing : Bool) wh
               p.kept ∙ (rw (w, same));
         }
 
-    module _ (b : Bounds) (c : Cuts text at b) (l : Line) (room : ℕ)
-        (here : l ≡ line_of (sum16 start count) (take (b.end - at) (drop at text))) (long : room ≡ length buffer) where
+    module _ (line behind : List ℕ) (c : Cuts rest line behind) (l : Line) (room : ℕ) (here : l ≡ line_of (sum16 start count) line)
+        (long : room ≡ length buffer) where
       -- the lines behind the next
       abbrev later : List ℕ → Made
-      later all = lines start (length buffer) (suc n) all (lines_of (drop b.next text))
+      later all = lines start (length buffer) (suc n) all (lines_of behind)
 
       -- the next line, as it is judged
       next : assembled start (length buffer) text ≡ judged (length buffer) n p.before later l
       unfolding lines
       next = p.same ∙ (rw c.same (rw (p.size, ← here)))
 
-      pub pass_stop : (f : Fault) → step_to room count l ≡ Stop f →
-          Passes (assembled start (length buffer) text) writing (Refused f n) buffer bytes
-      pass_stop f h =
-          let m = next ∙ judged_stop (length buffer) n count p.before later p.size f l (rw long at h) in
+      pub pass_stop : (bad : BadLine) → step_to room count l ≡ Err bad.fault → bad.line ≡ n →
+          Passes (assembled start (length buffer) text) writing (Err bad) buffer bytes
+      pass_stop bad h e =
+          let m = next ∙ judged_stop (length buffer) n count p.before later p.size bad.fault l (rw long at h) in
           record {
-            answered = rw m;
+            answered = rw (m, ← e);
             judged = λ w. p.kept ∙ (rw w);
-            written = λ w all e. let z : wrong f n ≡ made all = sym m ∙ e in let y : ◌≡◌ {A = ℕ} 0 1 = cc in absurd (omega arith);
+            written = λ w all k. let z : wrong bad.fault n ≡ made all = sym m ∙ k in cc;
           }
 
-      module _ (total : ℕ) (h : step_to room count l ≡ Go total) where
+      module _ (total : ℕ) (h : step_to room count l ≡ Ok total) where
         goes : Goes (length buffer) n count total p.before (bytes_of l) later (judged (length buffer) n p.before later l)
         goes = judged_go (length buffer) n count p.before _ p.size total l (rw long at h)
 
-        pub pass_room : count + length (bytes_of l) ≤ length bytes
-        pass_room = let g = goes in omega (arith, g.size, g.fits, pass_size)
-
         pub pass_more : (bytes' : List ℕ) → bytes' ≡ (when writing then sets bytes count (bytes_of l) else bytes) →
-            Passing text start buffer writing bytes' b.next (n + 1) total
+            Passing text start buffer writing bytes' behind (n + 1) total
         pass_more bytes' e =
             let g = goes in
             record {
               before = p.before ++ bytes_of l;
               size = length-append p.before (bytes_of l) ∙ (rw p.size (sym g.size));
               fits = g.fits;
-              within = c.inside;
-              few = omega (arith, p.few, c.later);
+              few = omega (arith, p.few, c.shorter);
               same = next ∙ g.same ∙ (rw (add-one n));
               kept =
                   e ∙ (rw p.kept (shown_more writing p.before (bytes_of l) buffer count p.size (omega (arith, g.size, g.fits))));
             }
-
--- A pass that judges and then, where nothing is wrong, one that writes.
-
-written_left : (m : Made) (k : ℕ) (a : Assembly) (buffer bytes : List ℕ) → Passes m true a buffer bytes → Assembled k ≡ answer m →
-    bytes ≡ left m buffer
-written_left (made all) k a buffer bytes p h = p.written refl all refl
-written_left (wrong e n) k a buffer bytes p h = let z : ◌≡◌ {A = ℕ} 0 1 = cc in absurd (omega arith)
-
-refused_left : (m : Made) (e : Fault) (n : ℕ) (buffer bytes : List ℕ) → bytes ≡ buffer → Refused e n ≡ answer m → bytes ≡ left m buffer
-refused_left (made all) e n buffer bytes h g = let z : ◌≡◌ {A = ℕ} 0 1 = cc in absurd (omega arith)
-refused_left (wrong f k) e n buffer bytes h g = h
-
-module _ (start : ℕ) (text buffer first : List ℕ) (a : Assembly)
-    (p : Passes (assembled start (length buffer) text) false a buffer first) where
-  pub passed_twice : (k : ℕ) (b : Assembly) (second : List ℕ) → a ≡ Assembled k →
-      Passes (assembled start (length first) text) true b first second →
-      (b ≡ answer (assembled start (length buffer) text)) × (second ≡ left (assembled start (length buffer) text) buffer)
-  passed_twice k b second e q =
-      let same = p.judged refl in
-      let w : Passes (assembled start (length buffer) text) true b buffer second = rw same at q in
-      (w.answered, written_left (assembled start (length buffer) text) k b buffer second w (sym e ∙ p.answered))
-
-  pub passed_once : (e : Fault) (n : ℕ) → a ≡ Refused e n →
-      (Refused e n ≡ answer (assembled start (length buffer) text)) × (first ≡ left (assembled start (length buffer) text) buffer)
-  passed_once e n h =
-      let r = sym h ∙ p.answered in (r, refused_left (assembled start (length buffer) text) e n buffer first (p.judged refl) r)

@@ -2,84 +2,55 @@
 
 #![tactic(auto)]
 
-ghost use Rattle.std.specs.Prelude.{◌≡◌, ◌+◌, ◌<◌, ◌≤◌, ◌∷◌, length, drop};
+ghost use Rattle.std.specs.Prelude.{◌≡◌, ◌+◌, ◌<◌, ◌≤◌, ◌∷◌, length, Result};
 ghost use Rattle.std.proofs.lemmas.List.Edits.{sets};
 ghost use Rattle.rules.specs.Basics.{when◌then◌else◌, sum16};
 ghost use Rattle.assembly_rules.specs.Assembly.{lines_of, assembled, answer, left};
-ghost use Rattle.assembler.specs.Passes.{ending, bytes_of, fitted_to, step_to, Passes};
-ghost use Rattle.assembler.specs.Cuts.{Cuts};
+ghost use Rattle.assembler.specs.Passes.{bytes_of, fitted_to, step_to, Passes};
+ghost use Rattle.assembler.specs.Cuts.{without_cr, Cuts};
 
-use assembly_rules::{Assembly, Fault, Line};
+use assembly_rules::{BadLine, Fault, Line};
 
-// Where a line's characters end, and where the next line begins.
-#[derive(Clone, Copy)]
-struct Bounds {
-    end: usize,
-    next: usize,
-}
-
-// So many bytes with those of the next line, or what is wrong with it.
-#[derive(Clone, Copy)]
-enum Step {
-    Stop(Fault),
-    Go(usize),
-}
-
-// How many characters end a line here.
-fn ending(text: &[u8], p: usize) -> usize
-    requires { p < length text.now }
-    ensures { result ≡ ending (drop p text.now) }
+// "a CR before it counts as space": what stands before a LF, without the CR that it may end with.
+fn without_cr(line: &[u8]) -> &[u8]
+    ensures { result.now ≡ without_cr line.now }
 {
-    let c = text[p];
-    if c == b'\n' {
-        return 1;
-    }
-    if c == b'\r' {
-        if p + 1 < text.len() {
-            if text[p + 1] == b'\n' {
-                return 2;
-            }
-        }
-    }
-    0
+    let Some((&last, front)) = line.split_last() else {
+        return line;
+    };
+    if last == b'\r' { front } else { line }
 }
 
-fn cut(text: &[u8], at: usize) -> Bounds
-    requires { at < length text.now }
-    ensures { Cuts text.now at result }
+// A text's first line, and the text behind it.
+fn cut(text: &[u8]) -> (&[u8], &[u8])
+    requires { 0 < length text.now }
+    ensures { Cuts text.now result.0.now result.1.now }
 {
-    let mut p = at;
-    while p < text.len() {
-        let k = ending(text, p);
-        if 0 < k {
-            return Bounds {
-                end: p,
-                next: p + k,
-            };
-        }
-        p += 1;
+    match text.iter().position(|&c| c == b'\n') {
+        Some(end) => (without_cr(&text[..end]), &text[end + 1..]),
+        None => (text, &[]),
     }
-    Bounds { end: p, next: p }
 }
 
 // "Addresses wrap at 65,536."
 fn address_of(start: u16, count: usize) -> u16
     ensures { result ≡ sum16 start count }
 {
-    std::num::wrapping_add_u16(start, (count % 65536) as u16)
+    start.wrapping_add((count % 65536) as u16)
 }
 
-fn fitted(room: usize, count: usize, size: usize) -> Step
+// So many bytes with those of the next line.
+fn fitted(room: usize, count: usize, size: usize) -> Result<usize, Fault>
     requires { count ≤ room }
     ensures { result ≡ fitted_to room count size }
 {
     if room - count < size {
-        return Step::Stop(Fault::NoRoom);
+        return Err(Fault::NoRoom);
     }
-    Step::Go(count + size)
+    Ok(count + size)
 }
 
-fn step_to(room: usize, count: usize, l: Line) -> Step
+fn step_to(room: usize, count: usize, l: Line) -> Result<usize, Fault>
     requires { count ≤ room }
     ensures { result ≡ step_to room count l }
 {
@@ -88,7 +59,7 @@ fn step_to(room: usize, count: usize, l: Line) -> Step
         Line::One(_a) => fitted(room, count, 1),
         Line::Two(_a, _b) => fitted(room, count, 2),
         Line::Three(_a, _b, _c) => fitted(room, count, 3),
-        Line::Wrong(e) => Step::Stop(e),
+        Line::Wrong(e) => Err(e),
     }
 }
 
@@ -124,41 +95,30 @@ fn put_if(bytes: &mut [u8], at: usize, l: Line, writing: bool)
 }
 
 // Line after line. A first pass judges, so that a second one writes only what is whole.
-fn pass(text: &[u8], start: u16, bytes: &mut [u8], writing: bool) -> Assembly
+fn pass(text: &[u8], start: u16, bytes: &mut [u8], writing: bool) -> Result<usize, BadLine>
     ensures { Passes (assembled start (length bytes.old) text.now) writing result bytes.old
         bytes.new }
 {
-    let mut at = 0;
+    let mut rest = text;
     let mut n = 1;
     let mut count = 0;
-    while at < text.len() {
-        let line = cut(text, at);
-        let end = line.end;
-        let next = line.next;
-        let l = lines::line_of(&text[at..end], address_of(start, count));
-        match step_to(bytes.len(), count, l) {
-            Step::Stop(e) => {
-                return Assembly::Refused(e, n);
-            }
-            Step::Go(total) => {
-                put_if(bytes, count, l, writing);
-                count = total;
-            }
-        }
+    while !rest.is_empty() {
+        let (line, behind) = cut(rest);
+        let l = lines::line_of(line, address_of(start, count));
+        let total = step_to(bytes.len(), count, l).map_err(|fault| BadLine { fault, line: n })?;
+        put_if(bytes, count, l, writing);
+        count = total;
         n += 1;
-        at = next;
+        rest = behind;
     }
-    Assembly::Assembled(count)
+    Ok(count)
 }
 
-pub fn assemble(text: &[u8], start: u16, bytes: &mut [u8]) -> Assembly
+pub fn assemble(text: &[u8], start: u16, bytes: &mut [u8]) -> Result<usize, BadLine>
     ensures answered { result ≡ answer (assembled start (length bytes.old) text.now) }
     ensures left { bytes.new
         ≡ left (assembled start (length bytes.old) text.now) bytes.old }
 {
-    let judged = pass(text, start, bytes, false);
-    match judged {
-        Assembly::Assembled(_count) => pass(text, start, bytes, true),
-        Assembly::Refused(e, n) => Assembly::Refused(e, n),
-    }
+    pass(text, start, bytes, false)?;
+    pass(text, start, bytes, true)
 }

@@ -1,5 +1,5 @@
 -- What a text assembles to, and what the caller is told.
-use Rattle.std.specs.Prelude.{ℕ, suc, ◌+◌, ◌*◌, ◌%◌, ◌^◌, Bool, false, ◌&&◌, List, [], ◌∷◌, ◌++◌, leb, eqb, length}
+use Rattle.std.specs.Prelude.{ℕ, suc, ◌+◌, ◌*◌, ◌%◌, ◌^◌, Bool, false, ◌&&◌, List, [], ◌∷◌, ◌++◌, leb, eqb, length, Result, Ok, Err}
 use Prim.Native.Char.{code}
 use Rattle.rules.specs.Basics.{when◌then◌else◌, sum16}
 use Rattle.rules.specs.Step.{front}
@@ -7,8 +7,7 @@ use Rattle.assembly_rules.specs.declared.Fault.{Fault}
 use Rattle.assembly_rules.specs.declared.Fault.TheVariants.{NotALine, NoSuchMode, BranchTooFar, TooDeep, NoRoom}
 use Rattle.assembly_rules.specs.declared.Line.{Line}
 use Rattle.assembly_rules.specs.declared.Line.TheVariants.{Nothing, One, Two, Three, Wrong}
-use Rattle.assembly_rules.specs.declared.Assembly.{Assembly}
-use Rattle.assembly_rules.specs.declared.Assembly.TheVariants.{Assembled, Refused}
+use Rattle.assembly_rules.specs.declared.BadLine.{BadLine}
 use Rattle.assembly_rules.specs.Lines.{line_of}
 
 abbrev pub begins_with_lf : List ℕ → Bool
@@ -54,9 +53,9 @@ abbrev pub assembled : ℕ → ℕ → List ℕ → Made
 assembled start room text = lines start room 1 [] (lines_of text)
 
 -- "the first bad line": what the caller is told
-abbrev pub answer : Made → Assembly
-answer (made bytes) = Assembled (length bytes)
-answer (wrong e n) = Refused e n
+abbrev pub answer : Made → Result ℕ BadLine
+answer (made bytes) = Ok (length bytes)
+answer (wrong e n) = Err (record { fault = e; line = n })
 
 -- the lent bytes: "the output is then unchanged"
 abbrev pub left : Made → List ℕ → List ℕ
@@ -75,9 +74,9 @@ abbrev pub told : ℕ → ℕ → ℕ
 told number count = number + 65536 * (count % 2 ^ 48)
 
 -- "done, how many bytes or characters were written; refused, the number of the bad line, from 1 (0 for the lister)"
-abbrev pub assembly_word : Assembly → ℕ
-assembly_word (Assembled count) = told 0 count
-assembly_word (Refused e n) = told (number_of e) n
+abbrev pub assembly_word : Result ℕ BadLine → ℕ
+assembly_word (Ok count) = told 0 count
+assembly_word (Err bad) = told (number_of bad.fault) bad.line
 
 -- a word, and what is left in the buffer that was lent
 pub record Words : Type 0 where

@@ -1,5 +1,5 @@
 -- What bytes are listed as.
-use Rattle.std.specs.Prelude.{ℕ, zero, suc, ◌/◌, ◌%◌, ◌&&◌, List, [], ◌∷◌, ◌++◌, leb, length, drop}
+use Rattle.std.specs.Prelude.{ℕ, zero, suc, ◌/◌, ◌%◌, ◌&&◌, List, [], ◌∷◌, ◌++◌, leb, length, drop, Result, Ok, Err}
 use Prim.Native.Char.{code}
 use Rattle.rules.specs.declared.Instruction.{Instruction}
 use Rattle.rules.specs.Basics.{when◌then◌else◌, at, sum16}
@@ -9,8 +9,8 @@ use Rattle.rules.specs.Step.{front}
 use Rattle.rules.specs.Text.{digit, hex}
 use Rattle.assembly_rules.specs.declared.Shape.{Shape}
 use Rattle.assembly_rules.specs.declared.Shape.TheVariants as shape
+use Rattle.assembly_rules.specs.declared.Fault.{Fault}
 use Rattle.assembly_rules.specs.declared.Fault.TheVariants.{NoRoom}
-use Rattle.assembly_rules.specs.declared.Listing.{Listing}
 use Rattle.assembly_rules.specs.Characters.{said}
 use Rattle.assembly_rules.specs.Mnemonics.{name_of, shape_of}
 use Rattle.assembly_rules.specs.Assembly.{number_of, told, Words}
@@ -65,12 +65,12 @@ abbrev pub text_of : ℕ → List ℕ → List ℕ
 text_of start bytes = listed (length bytes) start bytes
 
 -- "34 no room (the lister's only one)"
-abbrev pub listing : ℕ → ℕ → Listing
-listing size room = when leb size room then Listing.Listed size else Listing.Unlisted NoRoom
+abbrev pub listing : ℕ → ℕ → Result ℕ Fault
+listing size room = when leb size room then Ok size else Err NoRoom
 
-abbrev pub listing_word : Listing → ℕ
-listing_word (Listing.Listed size) = told 0 size
-listing_word (Listing.Unlisted e) = told (number_of e) 0
+abbrev pub listing_word : Result ℕ Fault → ℕ
+listing_word (Ok size) = told 0 size
+listing_word (Err e) = told (number_of e) 0
 
 unfoldable pub list_words : List ℕ → ℕ → List ℕ → Words
 list_words bytes start buffer =

@@ -55,16 +55,9 @@ pub enum Line {
     Wrong(Fault),
 }
 
-// A text: how many bytes it makes, or what is wrong and in which line.
+// What is wrong with a text, and in which line.
 #[derive(Clone, Copy)]
-pub enum Assembly {
-    Assembled(usize),
-    Refused(Fault, usize),
-}
-
-// Bytes: how many characters they are listed as.
-#[derive(Clone, Copy)]
-pub enum Listing {
-    Listed(usize),
-    Unlisted(Fault),
+pub struct BadLine {
+    pub fault: Fault,
+    pub line: usize,
 }

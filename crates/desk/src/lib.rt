@@ -11,30 +11,30 @@ ghost use Rattle.admission_rules.specs.Safety.{Safe};
 ghost use Rattle.assembly_rules.specs.Assembly.{told, assembly_word, assemble_words};
 ghost use Rattle.assembly_rules.specs.Listing.{listing_word, list_words};
 
-use assembly_rules::{Assembly, Listing};
+use assembly_rules::{BadLine, Fault};
 
 // "from bit 16 on", which leaves 48 bits for a count.
 fn told(number: u8, count: usize) -> u64
     ensures { result ≡ told number count }
 {
-    number as u64 + 65536 * (count as u64 % 281474976710656)
+    u64::from(number) + ((count as u64) << 16)
 }
 
-fn assembly_word(a: Assembly) -> u64
-    ensures { result ≡ assembly_word a }
+fn assembly_word(assembled: Result<usize, BadLine>) -> u64
+    ensures { result ≡ assembly_word assembled }
 {
-    match a {
-        Assembly::Assembled(count) => told(0, count),
-        Assembly::Refused(e, n) => told(faults::number_of(e), n),
+    match assembled {
+        Ok(count) => told(0, count),
+        Err(bad) => told(faults::number_of(bad.fault), bad.line),
     }
 }
 
-fn listing_word(l: Listing) -> u64
-    ensures { result ≡ listing_word l }
+fn listing_word(listed: Result<usize, Fault>) -> u64
+    ensures { result ≡ listing_word listed }
 {
-    match l {
-        Listing::Listed(count) => told(0, count),
-        Listing::Unlisted(e) => told(faults::number_of(e), 0),
+    match listed {
+        Ok(count) => told(0, count),
+        Err(fault) => told(faults::number_of(fault), 0),
     }
 }
 

@@ -5,7 +5,6 @@
 ghost use Rattle.std.specs.Prelude.{◌<◌, ◌≤◌, length, take, IsNone};
 ghost use Rattle.std.specs.Io.KnownBytes.{Consumes, IsAtEnd};
 
-use assembly_rules::Listing;
 use operands::Found;
 use std::env::{Env, FillError};
 use std::io;
@@ -128,8 +127,8 @@ fn list(
     text: &mut [u8],
 ) -> io::Result<()> {
     match source::list(bytes, start, text) {
-        Listing::Listed(count) => give(rt, &text[0..count]),
-        Listing::Unlisted(_e) => refuse(rt),
+        Ok(count) => give(rt, &text[0..count]),
+        Err(_e) => refuse(rt),
     }
 }
 

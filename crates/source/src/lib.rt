@@ -2,35 +2,20 @@
 
 #![tactic(auto)]
 
-ghost use Rattle.std.specs.Prelude.{◌≡◌, ◌+◌, ◌/◌, ◌%◌, ◌<◌, ◌≤◌, true, ◌++◌, length, take, drop, slice_set};
+ghost use Rattle.std.specs.Prelude.{◌≡◌, ◌+◌, ◌/◌, ◌%◌, ◌<◌, ◌≤◌, true, ◌++◌, length, take, slice_set, Result};
 ghost use Rattle.std.proofs.lemmas.List.Edits.{sets};
-ghost use Rattle.rules.specs.Basics.{when◌then◌else◌, at, sum16};
+ghost use Rattle.rules.specs.Basics.{when◌then◌else◌, at};
 ghost use Rattle.rules.specs.Text.{hex};
 ghost use Rattle.assembly_rules.specs.Characters.{said};
-ghost use Rattle.assembly_rules.specs.Listing.{letters_of, operand_text, line_at, text_of, listing};
-ghost use Rattle.source.specs.Lines.{size_by, count_by, whole_in, text_by, Spells, Measures, Holds, Lists};
+ghost use Rattle.assembly_rules.specs.Listing.{letters_of, operand_text, text_of, listing};
+ghost use Rattle.source.specs.Lines.{size_by, count_by, whole_in, text_by, Spells, Measures, Lists};
 
-use assembly_rules::{Fault, Listing, Shape};
+use assembly_rules::{Fault, Shape};
 use rules::Instruction;
-
-// A line's characters, its LF the last of them, at the front of twelve.
-#[derive(Clone, Copy)]
-struct Spelt {
-    text: [u8; 12],
-    count: usize,
-}
 
 // How many characters a line has with its LF, and how many bytes it is of.
 #[derive(Clone, Copy)]
 struct Extent {
-    count: usize,
-    size: usize,
-}
-
-// A line, and how many bytes it is of.
-#[derive(Clone, Copy)]
-struct Line {
-    text: [u8; 12],
     count: usize,
     size: usize,
 }
@@ -40,19 +25,15 @@ fn size_of(shape: Shape) -> usize
     ensures { result ≡ size_by shape }
 {
     match shape {
-        Shape::Implied => 1,
-        Shape::Accumulator => 1,
-        Shape::Immediate => 2,
-        Shape::Zero => 2,
-        Shape::ZeroX => 2,
-        Shape::ZeroY => 2,
-        Shape::IndirectX => 2,
-        Shape::IndirectY => 2,
-        Shape::Relative => 2,
-        Shape::Absolute => 3,
-        Shape::AbsoluteX => 3,
-        Shape::AbsoluteY => 3,
-        Shape::Indirect => 3,
+        Shape::Implied | Shape::Accumulator => 1,
+        Shape::Immediate
+        | Shape::Zero
+        | Shape::ZeroX
+        | Shape::ZeroY
+        | Shape::IndirectX
+        | Shape::IndirectY
+        | Shape::Relative => 2,
+        Shape::Absolute | Shape::AbsoluteX | Shape::AbsoluteY | Shape::Indirect => 3,
     }
 }
 
@@ -63,84 +44,66 @@ fn count_of(shape: Shape) -> usize
     match shape {
         Shape::Implied => 4,
         Shape::Accumulator => 6,
-        Shape::Immediate => 9,
         Shape::Zero => 8,
-        Shape::ZeroX => 10,
-        Shape::ZeroY => 10,
-        Shape::IndirectX => 12,
-        Shape::IndirectY => 12,
-        Shape::Relative => 10,
-        Shape::Absolute => 10,
-        Shape::AbsoluteX => 12,
-        Shape::AbsoluteY => 12,
-        Shape::Indirect => 12,
+        Shape::Immediate => 9,
+        Shape::ZeroX | Shape::ZeroY | Shape::Relative | Shape::Absolute => 10,
+        Shape::IndirectX
+        | Shape::IndirectY
+        | Shape::AbsoluteX
+        | Shape::AbsoluteY
+        | Shape::Indirect => 12,
     }
-}
-
-// The byte that stands k behind a place; 0 behind the end.
-fn behind(bytes: &[u8], i: usize, k: usize) -> u8
-    requires { i ≤ length bytes.now }
-    ensures { result ≡ at (drop i bytes.now) k }
-{
-    if k < bytes.len() - i {
-        return bytes[i + k];
-    }
-    0
-}
-
-// The instruction at a place, where all its bytes are there; else one that is undefined.
-fn whole_at(bytes: &[u8], i: usize) -> Instruction
-    requires { i < length bytes.now }
-    ensures { result ≡ whole_in (drop i bytes.now) }
-{
-    let found = decode::decode(
-        behind(bytes, i, 0),
-        behind(bytes, i, 1),
-        behind(bytes, i, 2),
-    );
-    if size_of(names::shape_of(found)) <= bytes.len() - i {
-        return found;
-    }
-    Instruction::Undefined
 }
 
 // "a byte that starts no whole instruction is listed as a line of BYTE and its value": nine characters
-fn count_with(name: u32, shape: Shape) -> usize
-    ensures { result ≡ count_by name shape }
+fn extent_of(found: Instruction) -> Extent
+    ensures { Measures found result.count result.size }
 {
-    if name == 0 {
-        return 9;
-    }
-    count_of(shape)
-}
-
-fn measure_at(bytes: &[u8], i: usize) -> Extent
-    requires { i < length bytes.now }
-    ensures { Measures (line_at 0 (drop i bytes.now)) result.count result.size }
-{
-    let found = whole_at(bytes, i);
     let shape = names::shape_of(found);
     Extent {
-        count: count_with(names::name_of(found), shape),
+        count: if names::name_of(found) == 0 {
+            9
+        } else {
+            count_of(shape)
+        },
         size: size_of(shape),
     }
 }
 
+// Byte k; 0 behind the end.
+fn byte_at(rest: &[u8], k: usize) -> u8
+    ensures { result ≡ at rest.now k }
+{
+    rest.get(k).copied().unwrap_or(0)
+}
+
+// The instruction that some bytes begin with, where all its own are there; else one that is undefined.
+fn whole_in(rest: &[u8]) -> Instruction
+    ensures { result ≡ whole_in rest.now }
+{
+    let found = decode::decode(byte_at(rest, 0), byte_at(rest, 1), byte_at(rest, 2));
+    if size_of(names::shape_of(found)) <= rest.len() {
+        found
+    } else {
+        Instruction::Undefined
+    }
+}
+
 // "34 no room": whether all lines fit.
-fn measure(bytes: &[u8], room: usize) -> Listing
+fn measure(bytes: &[u8], room: usize) -> Result<usize, Fault>
     ensures { result ≡ listing (length (text_of 0 bytes.now)) room }
 {
+    let mut rest = bytes;
     let mut count = 0;
-    let mut i = 0;
-    while i < bytes.len() {
-        let m = measure_at(bytes, i);
-        if room - count < m.count {
-            return Listing::Unlisted(Fault::NoRoom);
+    while !rest.is_empty() {
+        let extent = extent_of(whole_in(rest));
+        if room - count < extent.count {
+            return Err(Fault::NoRoom);
         }
-        count += m.count;
-        i += m.size;
+        count += extent.count;
+        rest = &rest[extent.size..];
     }
-    Listing::Listed(count)
+    Ok(count)
 }
 
 fn hex(v: u8) -> [u8; 2]
@@ -161,130 +124,60 @@ fn letters_of(name: u32) -> [u8; 3]
 }
 
 // A branch's line: "a branch's target with four" digits.
-fn branch_line(name: u32, to: u16) -> Spelt
-    ensures { Spells (letters_of name ++ said " $" ++ hex (to / 256) ++ hex (to % 256)) result.text result.count }
+fn branch_line(name: u32, to: u16) -> [u8; 12]
+    ensures { Spells (letters_of name ++ said " $" ++ hex (to / 256) ++ hex (to % 256)) 10 result }
 {
-    let n = letters_of(name);
-    let h = hex((to / 256) as u8);
-    let l = hex((to % 256) as u8);
-    Spelt {
-        text: [
-            n[0], n[1], n[2], b' ', b'$', h[0], h[1], l[0], l[1], b'\n', 0, 0,
-        ],
-        count: 10,
-    }
+    let [x, y, z] = letters_of(name);
+    let [high, low] = to.to_be_bytes();
+    let [h, g] = hex(high);
+    let [l, k] = hex(low);
+    [x, y, z, b' ', b'$', h, g, l, k, b'\n', 0, 0]
 }
 
 // An instruction's line: "one space after the mnemonic and no other".
-fn instruction_line(a: u16, low: u8, high: u8, name: u32, shape: Shape) -> Spelt
-    ensures { Spells (letters_of name ++ operand_text a low high shape) result.text result.count }
+fn instruction_line(a: u16, low: u8, high: u8, name: u32, shape: Shape) -> [u8; 12]
+    ensures { Spells (letters_of name ++ operand_text a low high shape) (4 + length (operand_text 0 0 0 shape)) result }
 {
-    let letters = letters_of(name);
-    let x = letters[0];
-    let y = letters[1];
-    let z = letters[2];
-    let upper = hex(high);
-    let h = upper[0];
-    let g = upper[1];
-    let lower = hex(low);
-    let l = lower[0];
-    let k = lower[1];
+    let [x, y, z] = letters_of(name);
+    let [h, g] = hex(high);
+    let [l, k] = hex(low);
     match shape {
-        Shape::Implied => Spelt {
-            text: [x, y, z, b'\n', 0, 0, 0, 0, 0, 0, 0, 0],
-            count: 4,
-        },
-        Shape::Accumulator => Spelt {
-            text: [x, y, z, b' ', b'A', b'\n', 0, 0, 0, 0, 0, 0],
-            count: 6,
-        },
-        Shape::Immediate => Spelt {
-            text: [x, y, z, b' ', b'#', b'$', l, k, b'\n', 0, 0, 0],
-            count: 9,
-        },
-        Shape::Zero => Spelt {
-            text: [x, y, z, b' ', b'$', l, k, b'\n', 0, 0, 0, 0],
-            count: 8,
-        },
-        Shape::ZeroX => Spelt {
-            text: [x, y, z, b' ', b'$', l, k, b',', b'X', b'\n', 0, 0],
-            count: 10,
-        },
-        Shape::ZeroY => Spelt {
-            text: [x, y, z, b' ', b'$', l, k, b',', b'Y', b'\n', 0, 0],
-            count: 10,
-        },
-        Shape::IndirectX => Spelt {
-            text: [x, y, z, b' ', b'(', b'$', l, k, b',', b'X', b')', b'\n'],
-            count: 12,
-        },
-        Shape::IndirectY => Spelt {
-            text: [x, y, z, b' ', b'(', b'$', l, k, b')', b',', b'Y', b'\n'],
-            count: 12,
-        },
-        Shape::Relative => branch_line(
+        Shape::Implied => [x, y, z, b'\n', 0, 0, 0, 0, 0, 0, 0, 0],
+        Shape::Accumulator => [x, y, z, b' ', b'A', b'\n', 0, 0, 0, 0, 0, 0],
+        Shape::Immediate => [x, y, z, b' ', b'#', b'$', l, k, b'\n', 0, 0, 0],
+        Shape::Zero => [x, y, z, b' ', b'$', l, k, b'\n', 0, 0, 0, 0],
+        Shape::ZeroX => [x, y, z, b' ', b'$', l, k, b',', b'X', b'\n', 0, 0],
+        Shape::ZeroY => [x, y, z, b' ', b'$', l, k, b',', b'Y', b'\n', 0, 0],
+        Shape::IndirectX => [x, y, z, b' ', b'(', b'$', l, k, b',', b'X', b')', b'\n'],
+        Shape::IndirectY => [x, y, z, b' ', b'(', b'$', l, k, b')', b',', b'Y', b'\n'],
+        Shape::Relative => branch_line(name, addresses::target(a.wrapping_add(2), low)),
+        Shape::Absolute => [x, y, z, b' ', b'$', h, g, l, k, b'\n', 0, 0],
+        Shape::AbsoluteX => [x, y, z, b' ', b'$', h, g, l, k, b',', b'X', b'\n'],
+        Shape::AbsoluteY => [x, y, z, b' ', b'$', h, g, l, k, b',', b'Y', b'\n'],
+        Shape::Indirect => [x, y, z, b' ', b'(', b'$', h, g, l, k, b')', b'\n'],
+    }
+}
+
+fn byte_line(v: u8) -> [u8; 12]
+    ensures { Spells (said "BYTE $" ++ hex v) 9 result }
+{
+    let [l, k] = hex(v);
+    [b'B', b'Y', b'T', b'E', b' ', b'$', l, k, b'\n', 0, 0, 0]
+}
+
+// The line of what was found at an address, its LF the last of the characters at the front of twelve.
+fn line_of(found: Instruction, a: u16, rest: &[u8]) -> [u8; 12]
+    ensures { Spells (text_by a rest.now found) (count_by found) result }
+{
+    match names::name_of(found) {
+        0 => byte_line(byte_at(rest, 0)),
+        name => instruction_line(
+            a,
+            byte_at(rest, 1),
+            byte_at(rest, 2),
             name,
-            addresses::target(std::num::wrapping_add_u16(a, 2), low),
+            names::shape_of(found),
         ),
-        Shape::Absolute => Spelt {
-            text: [x, y, z, b' ', b'$', h, g, l, k, b'\n', 0, 0],
-            count: 10,
-        },
-        Shape::AbsoluteX => Spelt {
-            text: [x, y, z, b' ', b'$', h, g, l, k, b',', b'X', b'\n'],
-            count: 12,
-        },
-        Shape::AbsoluteY => Spelt {
-            text: [x, y, z, b' ', b'$', h, g, l, k, b',', b'Y', b'\n'],
-            count: 12,
-        },
-        Shape::Indirect => Spelt {
-            text: [x, y, z, b' ', b'(', b'$', h, g, l, k, b')', b'\n'],
-            count: 12,
-        },
-    }
-}
-
-fn byte_line(v: u8) -> Spelt
-    ensures { Spells (said "BYTE $" ++ hex v) result.text result.count }
-{
-    let l = hex(v);
-    Spelt {
-        text: [
-            b'B', b'Y', b'T', b'E', b' ', b'$', l[0], l[1], b'\n', 0, 0, 0,
-        ],
-        count: 9,
-    }
-}
-
-fn line_of(found: Instruction, a: u16, v: u8, low: u8, high: u8) -> Spelt
-    ensures { Spells (text_by a v low high found) result.text result.count }
-{
-    let name = names::name_of(found);
-    if name == 0 {
-        return byte_line(v);
-    }
-    instruction_line(a, low, high, name, names::shape_of(found))
-}
-
-fn line_at(bytes: &[u8], i: usize, start: u16) -> Line
-    requires { i < length bytes.now }
-    ensures { Holds (line_at (sum16 start i) (drop i bytes.now)) result.text result.count result.size }
-{
-    let found = whole_at(bytes, i);
-    let a = std::num::wrapping_add_u16(start, (i % 65536) as u16);
-    let spelt = line_of(
-        found,
-        a,
-        behind(bytes, i, 0),
-        behind(bytes, i, 1),
-        behind(bytes, i, 2),
-    );
-    let text = spelt.text;
-    Line {
-        text,
-        count: spelt.count,
-        size: size_of(names::shape_of(found)),
     }
 }
 
@@ -299,14 +192,12 @@ fn put_if(text: &mut [u8], place: usize, c: u8, here: bool)
 
 // Puts a line's first characters at a place. A loop that ended with them would be a call of memcpy to the compiler, and the archive calls
 // nothing.
-fn put_line(text: &mut [u8], at: usize, line: &[u8], count: usize)
+fn put_line(text: &mut [u8], at: usize, line: &[u8; 12], count: usize)
     requires { (count ≤ length line.now) × (at + count ≤ length text.old) }
     ensures { text.new ≡ sets text.old at (take count line.now) }
 {
-    let mut k = 0;
-    while k < line.len() {
-        put_if(text, at + k, line[k], k < count);
-        k += 1;
+    for (k, &c) in line.iter().enumerate() {
+        put_if(text, at + k, c, k < count);
     }
 }
 
@@ -314,28 +205,25 @@ fn put_lines(bytes: &[u8], start: u16, text: &mut [u8])
     requires { length (text_of start bytes.now) ≤ length text.old }
     ensures { text.new ≡ sets text.old 0 (text_of start bytes.now) }
 {
-    let mut i = 0;
+    let mut rest = bytes;
+    let mut a = start;
     let mut at = 0;
-    while i < bytes.len() {
-        let line = line_at(bytes, i, start);
-        let piece = line.text;
-        let count = line.count;
-        put_line(text, at, &piece, count);
-        at += count;
-        i += line.size;
+    while !rest.is_empty() {
+        let found = whole_in(rest);
+        let extent = extent_of(found);
+        put_line(text, at, &line_of(found, a, rest), extent.count);
+        at += extent.count;
+        a = a.wrapping_add(extent.size as u16);
+        rest = &rest[extent.size..];
     }
 }
 
 // Lists bytes that stand at a start, and answers how many characters that is: "34 no room (the lister's only one); the output is then
 // unchanged".
-pub fn list(bytes: &[u8], start: u16, text: &mut [u8]) -> Listing
+pub fn list(bytes: &[u8], start: u16, text: &mut [u8]) -> Result<usize, Fault>
     ensures { Lists (text_of start bytes.now) result text.old text.new }
 {
-    match measure(bytes, text.len()) {
-        Listing::Listed(count) => {
-            put_lines(bytes, start, text);
-            Listing::Listed(count)
-        }
-        Listing::Unlisted(e) => Listing::Unlisted(e),
-    }
+    let count = measure(bytes, text.len())?;
+    put_lines(bytes, start, text);
+    Ok(count)
 }

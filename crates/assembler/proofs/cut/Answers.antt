@@ -1,37 +1,16 @@
-use Rattle.std.proofs.Common.{arith}
-use Rattle.assembler.proofs.Laws.{walk_more, walk_end, walk_over, ending_within}
+use Rattle.std.proofs.Common.{rules, ◌+◌, arith, length-drop, add-one}
+use Rattle.std.proofs.lemmas.List.{take_rest}
+use Rattle.assembler.proofs.Laws.{first_line, only_line}
 use Rattle.assembler.proofs.cut.Goals as goal
 
-pub returns-then-k-gt0 : goal.returns-then-k-gt0
-returns-then-k-gt0 c =
-    let l = c.loop-p in
-    let h = c.loop-p-test.true in
-    let t = c.args.text.now in
-    let within = rw (← c.ending-k.ensures) at (ending_within t l.p h) in
+pub returns-in-Some : goal.returns-in-Some
+returns-in-Some c =
+    let text = c.args.text.now in
+    let same = first_line text c.in-Some.end (search rules) (search rules) (search rules) in
     record {
-      from = l.invariant.later;
-      within = l.invariant.within;
-      later = omega (arith, l.invariant.later);
-      inside = within;
-      same = walk_end t c.args.at l.p l.invariant c.ending-k.result c.ending-k.ensures c.if-k-gt0.true;
+      shorter = rw take_rest (omega (arith, length-drop (c.in-Some.end + 1) text, c.requires));
+      same = rw (take_rest, c.without_cr.ensures, add-one) same;
     }
 
-pub loop-p-preserved : goal.loop-p-preserved
-loop-p-preserved c =
-    let l = c.loop-p in
-    walk_more c.args.text.now c.args.at l.p l.invariant c.loop-p-test.true
-    (rw c.ending-k.ensures at c.if-k-gt0.false)
-
-pub returns : goal.returns
-returns c =
-    let l = c.loop-p in
-    let t = c.args.text.now in
-    let h = c.loop-p-test.false in
-    let f = c.requires in
-    record {
-      from = l.invariant.later;
-      within = l.invariant.within;
-      later = omega (arith, f, h);
-      inside = l.invariant.within;
-      same = walk_over t c.args.at l.p l.invariant (omega (arith, f, h)) h;
-    }
+pub returns-in-None : goal.returns-in-None
+returns-in-None c = record { shorter = c.requires; same = only_line c.args.text.now c.requires (search rules) }

@@ -1,26 +1,18 @@
-use Rattle.std.proofs.Common.{length, refl}
-use Rattle.assembly_rules.specs.Listing.{text_of}
-use Rattle.source.proofs.Laws.{answered, fits, lists_all, lists_none}
+use Rattle.std.proofs.Common.{rules, ◌≡◌, Err}
+use Rattle.source.proofs.Laws.{fits, lists_all, lists_none}
 use Rattle.source.proofs.list.Goals as goal
+
+pub returns-in_err-count : goal.returns-in_err-count
+returns-in_err-count c =
+    let f = c.in_err-count.field-0.0 in
+    let told : c.from_residual.result ≡ Err f = search rules in
+    rw told (lists_none c.args.start c.args.bytes.now c.args.text.now c.measure.result c.measure.ensures f (search rules))
 
 pub put_lines-requires : goal.put_lines-requires
 put_lines-requires c =
-    let bytes = c.args.bytes.now in
-    let room = length c.args.text.now in
-    let told = answered c.args.start room bytes refl c.in-Listed.ensures in
-    fits _ room _ told
+    fits c.args.start c.args.bytes.now c.args.text.now c.measure.result c.measure.ensures c.in_ok-count.count (search rules)
 
-pub returns-in-Listed : goal.returns-in-Listed
-returns-in-Listed c =
-    let bytes = c.args.bytes.now in
-    let text = c.args.text.now in
-    let told =
-    answered c.args.start (length text) bytes refl c.in-Listed.ensures in
-    lists_all (text_of c.args.start bytes) text _ _ told c.put_lines.ensures
-
-pub returns-in-Unlisted : goal.returns-in-Unlisted
-returns-in-Unlisted c =
-    let bytes = c.args.bytes.now in
-    let text = c.args.text.now in
-    let told = answered c.args.start (length text) bytes refl c.in-Unlisted.ensures in
-    lists_none (text_of c.args.start bytes) text _ told
+pub returns : goal.returns
+returns c =
+    lists_all c.args.start c.args.bytes.now c.args.text.now c.measure.result c.measure.ensures c.in_ok-count.count _ (search rules)
+    c.put_lines.ensures

@@ -1,37 +1,28 @@
-use Rattle.std.proofs.Common.{◌∙◌, arith}
-use Rattle.rules.specs.Basics.{sum16}
-use Rattle.source.proofs.Laws.{rest_size, putting_room, putting_more, putting_all}
+use Rattle.std.proofs.Common.{rules, arith}
+use Rattle.std.proofs.lemmas.List.{take_rest}
+use Rattle.assembly_rules.specs.Listing.{text_of}
+use Rattle.source.proofs.Laws.{some_left, putting_room, putting_more, putting_all}
 use Rattle.source.proofs.put_lines.Goals as goal
 
 pub put_line-requires : goal.put_line-requires
 put_line-requires c =
-    let l = c.loop-i in
-    let bytes = c.args.bytes.now in
-    let room = putting_room bytes c.args.start c.args.text.now _ l.i l.at l.invariant.1 _ _ _
-    c.loop-i-test.true c.line_at-line.ensures in
-    (c.line_at-line.ensures.spells.within, omega (arith, room, l.invariant.0, c.requires))
+    let l = c.loop-rest in
+    let some = some_left l.rest.now c.is_empty.ensures c.loop-rest-test.true in
+    let m = rw c.whole_in-found.ensures at c.extent_of-extent.ensures in
+    let room = putting_room (text_of c.args.start c.args.bytes.now) c.args.text.now l.text l.rest.now l.a l.at l.invariant some m in
+    let within = rw (← c.extent_of-extent.ensures.characters) at c.line_of.ensures.within in
+    (within, omega (arith, room, c.requires, l.auto.text))
 
-pub overflow_add-i : goal.overflow_add-i
-overflow_add-i c =
-    let l = c.loop-i in
-    let size = rest_size c.args.bytes.now (sum16 c.args.start l.i) l.i c.loop-i-test.true in
-    omega (arith, size.1, c.line_at-line.ensures.takes)
-
-pub loop-i-smaller : goal.loop-i-smaller
-loop-i-smaller c =
-    let l = c.loop-i in
-    let size = rest_size c.args.bytes.now (sum16 c.args.start l.i) l.i c.loop-i-test.true in
-    omega (arith, size.0, size.1, c.line_at-line.ensures.takes)
-
-pub loop-i-preserved : goal.loop-i-preserved
-loop-i-preserved c =
-    let l = c.loop-i in (
-      c.put_line.auto.text ∙ l.invariant.0,
-      putting_more c.args.bytes.now c.args.start c.args.text.now _ l.i l.at l.invariant.1 _ _ _
-          c.loop-i-test.true c.line_at-line.ensures _ c.put_line.ensures,
-    )
+pub loop-rest-preserved : goal.loop-rest-preserved
+loop-rest-preserved c =
+    let l = c.loop-rest in
+    let some = some_left l.rest.now c.is_empty.ensures c.loop-rest-test.true in
+    let m = rw c.whole_in-found.ensures at c.extent_of-extent.ensures in
+    rw take_rest
+    (putting_more (text_of c.args.start c.args.bytes.now) c.args.text.now l.text l.rest.now l.a l.at l.invariant some m c.line_of.result _
+    (rw c.whole_in-found.ensures at c.line_of.ensures) c.put_line.ensures)
 
 pub returns : goal.returns
 returns c =
-    let l = c.loop-i in
-    putting_all c.args.bytes.now c.args.start c.args.text.now _ l.i l.at l.invariant.1 c.loop-i-test.false
+    let l = c.loop-rest in
+    putting_all (text_of c.args.start c.args.bytes.now) c.args.text.now l.text l.rest.now l.a l.at l.invariant (search rules)
