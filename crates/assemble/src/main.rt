@@ -2,116 +2,13 @@
 
 #![tactic(auto)]
 
-ghost use Rattle.std.specs.Prelude.{◌<◌, ◌≤◌, length, take, IsNone};
-ghost use Rattle.std.specs.Io.KnownBytes.{Consumes, IsAtEnd};
-
+use arguments::{only, start_of};
 use assembly_rules::Fault;
-use operands::Found;
-use std::env::{Env, FillError};
 use std::io;
-use std::io::Read;
+use streams::{fill, or_tell};
 
 // One byte more than the longest text has: that shows an input that is too long.
 const ROOM: usize = 4194305;
-
-// What the argument says.
-#[derive(Clone, Copy)]
-enum Start {
-    At(u16),
-    Nowhere,
-}
-
-// So many bytes were read, before the input ended or a read failed.
-#[derive(Clone, Copy)]
-struct Filled {
-    count: usize,
-    failure: Option<io::Error>,
-}
-
-// "the first argument is the start, four hexadecimal digits"
-fn start_of(word: &[u8]) -> Start {
-    if word.len() != 4 {
-        return Start::Nowhere;
-    }
-    match operands::number(word, 0) {
-        Found::Value(start, four, _at) => {
-            if four {
-                return Start::At(start);
-            }
-            Start::Nowhere
-        }
-        Found::Nowhere => Start::Nowhere,
-    }
-}
-
-// What the only argument says. One that has more than four bytes is none that could.
-fn told(rt: &impl Env) -> Start {
-    let mut word = [0u8; 4];
-    match rt.arg(2, &mut word) {
-        Err(FillError::NotPresent) => {}
-        Ok(_size) => return Start::Nowhere,
-        Err(FillError::TooLong) => return Start::Nowhere,
-    }
-    match rt.arg(1, &mut word) {
-        Ok(size) => start_of(&word[..size]),
-        Err(_e) => Start::Nowhere,
-    }
-}
-
-// Reads until the buffer is full, the input ends or a read fails.
-fn fill<R: Read>(input: &mut R, buffer: &mut [u8]) -> Filled
-    ensures in_bounds { result.count ≤ length buffer.new }
-    ensures bytes { Consumes (R.remaining input.old) (R.remaining input.new) (take result.count buffer.new) }
-    ensures end { result.count < length buffer.new → IsNone result.failure → IsAtEnd (R.remaining input.new) }
-{
-    let mut done = 0;
-    while done < buffer.len() {
-        match input.read(&mut buffer[done..]) {
-            Ok(n) => {
-                if n == 0 {
-                    return Filled {
-                        count: done,
-                        failure: None,
-                    };
-                }
-                done += n;
-            }
-            Err(e) => {
-                return Filled {
-                    count: done,
-                    failure: Some(e),
-                };
-            }
-        }
-    }
-    Filled {
-        count: done,
-        failure: None,
-    }
-}
-
-// An array that is lent whole brings its length with it: no proof counts its zeros.
-fn take(rt: &impl Input, input: &mut [u8; ROOM]) -> Filled
-    ensures { result.count ≤ length input.new }
-{
-    fill(&mut rt.reader(), input)
-}
-
-// What failed, and why: in the system's words, without the number that std puts behind them.
-fn tell(rt: &(impl Eprint + Alloc), what: &str, e: io::Error) -> io::Result<()> {
-    let said = e.to_string(rt.alloc())?;
-    match said.as_str().split_once(" (os error ") {
-        Some((reason, _number)) => eprintln!(rt; "{what}: {reason}"),
-        None => eprintln!(rt; "{what}: {said}"),
-    }
-}
-
-fn give(rt: &(impl Print + Eprint + Alloc), output: &[u8]) -> io::Result<()> {
-    match rt.write_all(output) {
-        Ok(()) => Ok(()),
-        Err(e) => tell(rt, "standard output", e),
-    }
-}
 
 // "a refusal goes to standard error as E, its number, and of the assembler the line"
 fn refuse(rt: &impl Eprint, e: Fault, line: usize) -> io::Result<()> {
@@ -122,29 +19,28 @@ fn refuse(rt: &impl Eprint, e: Fault, line: usize) -> io::Result<()> {
 fn assemble(rt: &(impl Print + Eprint + Alloc), text: &[u8], start: u16) -> io::Result<()> {
     let mut bytes = [0u8; 65536];
     match assembler::assemble(text, start, &mut bytes) {
-        Ok(count) => give(rt, &bytes[0..count]),
+        Ok(count) => {
+            or_tell(rt, "standard output", rt.write_all(&bytes[0..count]))?;
+            Ok(())
+        }
         Err(bad) => refuse(rt, bad.fault, bad.line),
     }
 }
 
 fn assemble_input(rt: &(impl Input + Print + Eprint + Alloc), start: u16) -> io::Result<()> {
     let mut text = [0u8; ROOM];
-    let taken = take(rt, &mut text);
-    let count = taken.count;
-    if let Some(e) = taken.failure {
-        return tell(rt, "standard input", e);
+    match or_tell(rt, "standard input", fill(&mut rt.reader(), &mut text))? {
+        Some(ROOM) => eprintln!(rt; "standard input: a text has at most 4,194,304 bytes"),
+        Some(count) => assemble(rt, &text[0..count], start),
+        None => Ok(()),
     }
-    if count == ROOM {
-        return eprintln!(rt; "standard input: a text has at most 4,194,304 bytes");
-    }
-    assemble(rt, &text[0..count], start)
 }
 
 fn main(rt: HostRuntime) -> io::Result<()> {
-    match told(&rt) {
-        Start::At(address) => assemble_input(&rt, address),
-        Start::Nowhere => {
-            eprintln!(rt; "usage: assemble START <TEXT >BYTES, START in four hexadecimal digits")
-        }
+    match only(&rt, &mut [0u8; 4]).and_then(start_of) {
+        Some(start) => assemble_input(&rt, start),
+        None => eprintln!(rt;
+            "usage: assemble START <TEXT >BYTES, START in four hexadecimal digits"
+        ),
     }
 }

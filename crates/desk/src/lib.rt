@@ -54,7 +54,7 @@ pub fn wankitare_pages(reads: &mut [u64; 256], writes: &mut [u64; 256], accesses
         ≡ page_words (fed reads.old writes.old accesses.now) }
 {
     match pages::feed(reads, writes, accesses) {
-        Ok(()) => 0,
+        Ok(_) => 0,
         Err(why) => words::refusal_word(why),
     }
 }

@@ -1,4 +1,5 @@
 pub mod Admission
+pub mod Arguments
 pub mod Arithmetic
 pub mod Assembler
 pub mod Board
