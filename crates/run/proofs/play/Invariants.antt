@@ -13,7 +13,9 @@ pub record Running (state₀ image₀ script accesses₀ state image accesses : 
   pub room : 8 * listed ≤ length accesses
   pub image_size : length image ≡ length image₀
   pub accesses_size : length accesses ≡ length accesses₀
-  pub plays : play images script (start state₀ image₀ accesses₀) ≡ play images (drop (steps * 2) script) (standing steps listed state image accesses)
+  pub plays :
+      play images script (start state₀ image₀ accesses₀) ≡
+      play images (drop (steps * 2) script) (standing steps listed state image accesses)
 
 abbrev pub invariant-loop-steps : goal.invariant-loop-steps
 invariant-loop-steps l = Running l.initial.state l.initial.image l.script l.initial.accesses l.state l.image l.accesses l.steps l.listed
