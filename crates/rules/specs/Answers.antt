@@ -75,6 +75,7 @@ pub record RunAnswer : Type 0 where
 abbrev pub ended : ℕ → ℕ → Result ⊤ Refusal → RunAnswer
 ended steps listed end = record { steps = steps; listed = listed; end = end }
 
+-- 0 where nothing was refused
 abbrev pub end_word : Result ⊤ Refusal → ℕ
 end_word = word_of (λ x. plain 0)
 
@@ -94,10 +95,9 @@ restart_word = word_of (λ f. record { number = 0; small = f.tail; large = f.at 
 abbrev pub append_word : Result ℕ Refusal → ℕ
 append_word = word_of (λ place. record { number = 0; small = 0; large = place })
 
-abbrev pub verdict_word : Result (Unit {0}) Refusal → ℕ
-verdict_word (Ok v) = 0
-verdict_word (Err e) = refusal_word e
+-- a map is accepted, a list counted, or not
+abbrev pub verdict_word : Result ⊤ Refusal → ℕ
+verdict_word = end_word
 
-abbrev pub count_word : Result (Unit {0}) Refusal → ℕ
-count_word (Ok u) = 0
-count_word (Err e) = refusal_word e
+abbrev pub count_word : Result ⊤ Refusal → ℕ
+count_word = end_word
