@@ -11,16 +11,17 @@ use Rattle.rules.specs.Opcodes.{Entry, undefined, alone, byte, word, late, Row, 
 use Rattle.rules.specs.Step.{front}
 use Rattle.rules.specs.Text.{hex}
 use Rattle.laws.proofs.Lists.{sets_append}
+use Rattle.assembly_rules.specs.declared.Shape.{Shape}
 use Rattle.assembly_rules.specs.declared.Fault.{Fault}
 use Rattle.assembly_rules.specs.declared.Fault.TheVariants.{NoRoom}
 use Rattle.assembly_rules.specs.Characters.{said}
 use Rattle.assembly_rules.specs.Mnemonics.{name_of, shape_of}
-use Rattle.assembly_rules.specs.Listing.{operand_text, Listed, instruction_line, line_at, text_of, listing}
+use Rattle.assembly_rules.specs.Listing.{letters_of, operand_text, Listed, instruction_line, line_at, text_of, listing}
 use Rattle.assembly_rules.proofs.Listings.{operand_width, line_size, text_first, text_none, text_anywhere}
 use Rattle.characters.proofs.Laws.{sets_front, sets_more}
 use Rattle.std.proofs.lemmas.List.{nil_from_length}
 use mathlib.Core.List.{map}
-use Rattle.source.specs.Lines.{size_by, count_by, found_in, whole_in, text_by, Spells, Measures, Lists}
+use Rattle.source.specs.Lines.{size_by, count_by, found_in, whole_in, text_by, Spells, Finds, Lists}
 
 -- What is the same of each row's entry, and of an undefined one, is the same of every number's.
 alike : {A : Type 0} (f g : Entry → A) (rs : List Row) → map (λ (r : Row). f r.entry) rs ≡ map (λ (r : Row). g r.entry) rs →
@@ -52,7 +53,7 @@ undefined_size (word f) h = cc
 undefined_size (late f) h = cc
 
 abbrev line_by : ℕ → List ℕ → Instruction → Listed
-line_by a rest i = record { size = size_by (shape_of i); text = text_by a rest i }
+line_by a rest i = record { size = size_by (shape_of i); text = text_by a rest (name_of i) (shape_of i) }
 
 whole_line : (a : ℕ) (rest : List ℕ) (i : Instruction) (z t : Bool) → eqb (name_of i) 0 ≡ z → (z ≡ true → size_by (shape_of i) ≡ 1) →
     (when not z && t then record { size = size_by (shape_of i); text = instruction_line a (at rest 1) (at rest 2) i }
@@ -74,49 +75,48 @@ line_is a rest =
     rw (d, s) (whole_line a rest i (eqb (name_of i) 0) (leb (size_by (shape_of i)) (length rest)) refl one)
 
 -- its characters, with the LF
-counted : (a : ℕ) (rest : List ℕ) (i : Instruction) → length (text_by a rest i) + 1 ≡ count_by i
-counted a rest i = go (eqb (name_of i) 0)
+counted : (a : ℕ) (rest : List ℕ) (n : ℕ) (s : Shape) → length (text_by a rest n s) + 1 ≡ count_by n s
+counted a rest n s = go (eqb n 0)
   where
-    go : (z : Bool) → length (when z then said "BYTE $" ++ hex (at rest 0) else instruction_line a (at rest 1) (at rest 2) i) + 1
-        ≡ (when z then 9 else 4 + length (operand_text 0 0 0 (shape_of i)))
+    go : (z : Bool) → length (when z then said "BYTE $" ++ hex (at rest 0) else letters_of n ++ operand_text a (at rest 1) (at rest 2) s) + 1
+        ≡ (when z then 9 else 4 + length (operand_text 0 0 0 s))
     go true = refl
-    go false = omega (arith, operand_width a (at rest 1) (at rest 2) (shape_of i))
+    go false = omega (arith, operand_width a (at rest 1) (at rest 2) s)
 
 pub some_left : {b : Bool} (l : List ℕ) → b ≡ eqb (length l) 0 → b ≡ false → 0 < length l
 some_left [] e f = cc
 some_left (c ∷ l) e f = omega arith
 
 -- What some bytes are listed as is one line and the lines behind it.
-module _ (rest : List ℕ) (some : 0 < length rest) {count size : ℕ} (m : Measures (whole_in rest) count size) where
-  size_within : (1 ≤ size) × (size ≤ length rest)
-  size_within = let s = line_size 0 rest some in rw (line_is 0 rest, ← m.takes) at s
+module _ (rest : List ℕ) (some : 0 < length rest) {n : ℕ} {s : Shape} (f : Finds (whole_in rest) n s) where
+  size_within : (1 ≤ size_by s) × (size_by s ≤ length rest)
+  size_within = let w = line_size 0 rest some in rw (line_is 0 rest, ← f.shaped) at w
 
-  pub size_some : 1 ≤ size
+  pub size_some : 1 ≤ size_by s
   size_some = size_within.0
 
-  pub size_most : size ≤ length rest
+  pub size_most : size_by s ≤ length rest
   size_most = size_within.1
 
   abbrev line : ℕ → List ℕ
-  line a = text_by a rest (whole_in rest) ++ code "\n" ∷ []
+  line a = text_by a rest n s ++ code "\n" ∷ []
 
-  line_first : (a : ℕ) → text_of a rest ≡ line a ++ text_of (sum16 a size) (drop size rest)
+  line_first : (a : ℕ) → text_of a rest ≡ line a ++ text_of (sum16 a (size_by s)) (drop (size_by s) rest)
   line_first a =
       let first = text_first a rest some in
-      (rw (line_is a rest, ← m.takes) at first) ∙ sym (append_assoc (text_by a rest (whole_in rest)) (code "\n" ∷ []) _)
+      (rw (line_is a rest, ← f.shaped, ← f.named) at first) ∙ sym (append_assoc (text_by a rest n s) (code "\n" ∷ []) _)
 
-  line_count : (a : ℕ) → length (line a) ≡ count
-  line_count a =
-      length-append (text_by a rest (whole_in rest)) (code "\n" ∷ []) ∙ counted a rest (whole_in rest) ∙ sym m.characters
+  line_count : (a : ℕ) → length (line a) ≡ count_by n s
+  line_count a = length-append (text_by a rest n s) (code "\n" ∷ []) ∙ counted a rest n s
 
-  pub longer : (a b : ℕ) → length (text_of a rest) ≡ count + length (text_of b (drop size rest))
+  pub longer : (a b : ℕ) → length (text_of a rest) ≡ count_by n s + length (text_of b (drop (size_by s) rest))
   longer a b =
       omega (
         arith,
         ap length (line_first a),
-        length-append (line a) (text_of (sum16 a size) (drop size rest)),
+        length-append (line a) (text_of (sum16 a (size_by s)) (drop (size_by s) rest)),
         line_count a,
-        text_anywhere (sum16 a size) b (drop size rest),
+        text_anywhere (sum16 a (size_by s)) b (drop (size_by s) rest),
       )
 
 -- The lines are put.
@@ -127,22 +127,22 @@ pub record Putting (all t t' rest : List ℕ) (a p : ℕ) : Type 0 where
   pub text : t' ≡ sets t 0 done
 
 module _ (all t t' rest : List ℕ) (a p : ℕ) (k : Putting all t t' rest a p) where
-  module _ (some : 0 < length rest) {count size : ℕ} (m : Measures (whole_in rest) count size) where
-    pub putting_room : p + count ≤ length all
+  module _ (some : 0 < length rest) {n : ℕ} {s : Shape} (f : Finds (whole_in rest) n s) where
+    pub putting_room : p + count_by n s ≤ length all
     putting_room =
-        omega (arith, k.size, ap length k.whole, length-append k.done (text_of a rest), longer rest some m a a)
+        omega (arith, k.size, ap length k.whole, length-append k.done (text_of a rest), longer rest some f a a)
 
-    pub putting_more : (l t'' : List ℕ) → Spells (text_by a rest (whole_in rest)) (count_by (whole_in rest)) l →
-        t'' ≡ sets t' p (take count l) → Putting all t t'' (drop size rest) (sum16 a size) (p + count)
-    putting_more l t'' s e =
-        let x = line rest some m a in
+    pub putting_more : (l t'' : List ℕ) → Spells (text_by a rest n s) (count_by n s) l →
+        t'' ≡ sets t' p (take (count_by n s) l) → Putting all t t'' (drop (size_by s) rest) (sum16 a (size_by s)) (p + count_by n s)
+    putting_more l t'' e h =
+        let x = line rest some f a in
         let z : 0 + length k.done ≡ length k.done = omega arith in
         let put = sym (sets_append k.done x t 0) in
         record {
           done = k.done ++ x;
-          size = omega (arith, k.size, length-append k.done x, line_count rest some m a);
-          whole = append_assoc k.done x _ ∙ ap (λ (n : List ℕ). k.done ++ n) (sym (line_first rest some m a)) ∙ k.whole;
-          text = e ∙ (rw (m.characters, s.text, k.text, k.size) (rw z at put));
+          size = omega (arith, k.size, length-append k.done x, line_count rest some f a);
+          whole = append_assoc k.done x _ ∙ ap (λ (m : List ℕ). k.done ++ m) (sym (line_first rest some f a)) ∙ k.whole;
+          text = h ∙ (rw (e.text, k.text, k.size) (rw z at put));
         }
 
   pub putting_all : length rest ≡ 0 → t' ≡ sets t 0 all

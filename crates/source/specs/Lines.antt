@@ -12,15 +12,15 @@ use Rattle.assembly_rules.specs.declared.Shape.{Shape}
 use Rattle.assembly_rules.specs.declared.Fault.{Fault}
 use Rattle.assembly_rules.specs.Characters.{said}
 use Rattle.assembly_rules.specs.Mnemonics.{name_of, shape_of, numbered}
-use Rattle.assembly_rules.specs.Listing.{operand_text, instruction_line, listing}
+use Rattle.assembly_rules.specs.Listing.{letters_of, operand_text, listing}
 
 -- "One or two bytes follow": the shapes are numbered by how many
 abbrev pub size_by : Shape → ℕ
 size_by s = when nat_lt (numbered s) 2 then 1 else when nat_lt (numbered s) 9 then 2 else 3
 
 -- a line's characters with its LF; 0 is no name
-abbrev pub count_by : Instruction → ℕ
-count_by i = when name_of i == 0 then 9 else 4 + length (operand_text 0 0 0 (shape_of i))
+abbrev pub count_by : ℕ → Shape → ℕ
+count_by m s = when m == 0 then 9 else 4 + length (operand_text 0 0 0 s)
 
 abbrev pub found_in : List ℕ → Instruction
 found_in bytes = instruction_of (decode (at bytes 0)) (at bytes 1) (at bytes 2)
@@ -28,12 +28,12 @@ found_in bytes = instruction_of (decode (at bytes 0)) (at bytes 1) (at bytes 2)
 abbrev pub whole_in : List ℕ → Instruction
 whole_in bytes = let i = found_in bytes in when nat_le (size_by (shape_of i)) (length bytes) then i else Undefined
 
-abbrev pub text_by : ℕ → List ℕ → Instruction → List ℕ
-text_by a bytes i = when name_of i == 0 then said "BYTE $" ++ hex (at bytes 0) else instruction_line a (at bytes 1) (at bytes 2) i
+abbrev pub text_by : ℕ → List ℕ → ℕ → Shape → List ℕ
+text_by a bytes m s = when m == 0 then said "BYTE $" ++ hex (at bytes 0) else letters_of m ++ operand_text a (at bytes 1) (at bytes 2) s
 
-pub record Measures (i : Instruction) (count size : ℕ) : Type 0 where
-  pub characters : count ≡ count_by i
-  pub takes : size ≡ size_by (shape_of i)
+pub record Finds (i : Instruction) (m : ℕ) (s : Shape) : Type 0 where
+  pub named : m ≡ name_of i
+  pub shaped : s ≡ shape_of i
 
 -- a line's characters and its LF, so many, at the front of some bytes
 pub record Spells (line : List ℕ) (count : ℕ) (bytes : List ℕ) : Type 0 where

@@ -8,16 +8,15 @@ ghost use Rattle.rules.specs.Basics.{when◌then◌else◌, at};
 ghost use Rattle.rules.specs.Text.{hex};
 ghost use Rattle.assembly_rules.specs.Characters.{said};
 ghost use Rattle.assembly_rules.specs.Listing.{letters_of, operand_text, text_of, listing};
-ghost use Rattle.source.specs.Lines.{size_by, count_by, whole_in, text_by, Spells, Measures, Lists};
+ghost use Rattle.source.specs.Lines.{size_by, count_by, whole_in, text_by, Spells, Finds, Lists};
 
 use assembly_rules::{Fault, Shape};
-use rules::Instruction;
 
-// How many characters a line has with its LF, and how many bytes it is of.
+// What an instruction is listed by; 0 is no name.
 #[derive(Clone, Copy)]
-struct Extent {
-    count: usize,
-    size: usize,
+struct Found {
+    name: u32,
+    shape: Shape,
 }
 
 // How many bytes an instruction is long.
@@ -55,21 +54,6 @@ fn count_of(shape: Shape) -> usize
     }
 }
 
-// "a byte that starts no whole instruction is listed as a line of BYTE and its value": nine characters
-fn extent_of(found: Instruction) -> Extent
-    ensures { Measures found result.count result.size }
-{
-    let shape = names::shape_of(found);
-    Extent {
-        count: if names::name_of(found) == 0 {
-            9
-        } else {
-            count_of(shape)
-        },
-        size: size_of(shape),
-    }
-}
-
 // Byte k; 0 behind the end.
 fn byte_at(rest: &[u8], k: usize) -> u8
     ensures { result ≡ at rest.now k }
@@ -77,16 +61,34 @@ fn byte_at(rest: &[u8], k: usize) -> u8
     rest.get(k).copied().unwrap_or(0)
 }
 
-// The instruction that some bytes begin with, where all its own are there; else one that is undefined.
-fn whole_in(rest: &[u8]) -> Instruction
-    ensures { result ≡ whole_in rest.now }
+// The instruction that some bytes begin with, where all its own are there; else none. The compiler would keep it apart, since it is called
+// at two places, and a listing took a fifth longer.
+#[inline(always)]
+fn find(rest: &[u8]) -> Found
+    ensures { Finds (whole_in rest.now) result.name result.shape }
 {
     let found = decode::decode(byte_at(rest, 0), byte_at(rest, 1), byte_at(rest, 2));
-    if size_of(names::shape_of(found)) <= rest.len() {
-        found
-    } else {
-        Instruction::Undefined
+    let shape = names::shape_of(found);
+    if rest.len() < size_of(shape) {
+        return Found {
+            name: 0,
+            shape: Shape::Implied,
+        };
     }
+    Found {
+        name: names::name_of(found),
+        shape,
+    }
+}
+
+// "a byte that starts no whole instruction is listed as a line of BYTE and its value": nine characters
+fn count_with(found: Found) -> usize
+    ensures { result ≡ count_by found.name found.shape }
+{
+    if found.name == 0 {
+        return 9;
+    }
+    count_of(found.shape)
 }
 
 // "34 no room": whether all lines fit.
@@ -96,12 +98,13 @@ fn measure(bytes: &[u8], room: usize) -> Result<usize, Fault>
     let mut rest = bytes;
     let mut count = 0;
     while !rest.is_empty() {
-        let extent = extent_of(whole_in(rest));
-        if room - count < extent.count {
+        let found = find(rest);
+        let more = count_with(found);
+        if room - count < more {
             return Err(Fault::NoRoom);
         }
-        count += extent.count;
-        rest = &rest[extent.size..];
+        count += more;
+        rest = &rest[size_of(found.shape)..];
     }
     Ok(count)
 }
@@ -135,13 +138,13 @@ fn branch_line(name: u32, to: u16) -> [u8; 12]
 }
 
 // An instruction's line: "one space after the mnemonic and no other".
-fn instruction_line(a: u16, low: u8, high: u8, name: u32, shape: Shape) -> [u8; 12]
-    ensures { Spells (letters_of name ++ operand_text a low high shape) (4 + length (operand_text 0 0 0 shape)) result }
+fn instruction_line(a: u16, low: u8, high: u8, found: Found) -> [u8; 12]
+    ensures { Spells (letters_of found.name ++ operand_text a low high found.shape) (4 + length (operand_text 0 0 0 found.shape)) result }
 {
-    let [x, y, z] = letters_of(name);
+    let [x, y, z] = letters_of(found.name);
     let [h, g] = hex(high);
     let [l, k] = hex(low);
-    match shape {
+    match found.shape {
         Shape::Implied => [x, y, z, b'\n', 0, 0, 0, 0, 0, 0, 0, 0],
         Shape::Accumulator => [x, y, z, b' ', b'A', b'\n', 0, 0, 0, 0, 0, 0],
         Shape::Immediate => [x, y, z, b' ', b'#', b'$', l, k, b'\n', 0, 0, 0],
@@ -150,7 +153,7 @@ fn instruction_line(a: u16, low: u8, high: u8, name: u32, shape: Shape) -> [u8; 
         Shape::ZeroY => [x, y, z, b' ', b'$', l, k, b',', b'Y', b'\n', 0, 0],
         Shape::IndirectX => [x, y, z, b' ', b'(', b'$', l, k, b',', b'X', b')', b'\n'],
         Shape::IndirectY => [x, y, z, b' ', b'(', b'$', l, k, b')', b',', b'Y', b'\n'],
-        Shape::Relative => branch_line(name, addresses::target(a.wrapping_add(2), low)),
+        Shape::Relative => branch_line(found.name, addresses::target(a.wrapping_add(2), low)),
         Shape::Absolute => [x, y, z, b' ', b'$', h, g, l, k, b'\n', 0, 0],
         Shape::AbsoluteX => [x, y, z, b' ', b'$', h, g, l, k, b',', b'X', b'\n'],
         Shape::AbsoluteY => [x, y, z, b' ', b'$', h, g, l, k, b',', b'Y', b'\n'],
@@ -166,19 +169,13 @@ fn byte_line(v: u8) -> [u8; 12]
 }
 
 // The line of what was found at an address, its LF the last of the characters at the front of twelve.
-fn line_of(found: Instruction, a: u16, rest: &[u8]) -> [u8; 12]
-    ensures { Spells (text_by a rest.now found) (count_by found) result }
+fn line_of(found: Found, a: u16, rest: &[u8]) -> [u8; 12]
+    ensures { Spells (text_by a rest.now found.name found.shape) (count_by found.name found.shape) result }
 {
-    match names::name_of(found) {
-        0 => byte_line(byte_at(rest, 0)),
-        name => instruction_line(
-            a,
-            byte_at(rest, 1),
-            byte_at(rest, 2),
-            name,
-            names::shape_of(found),
-        ),
+    if found.name == 0 {
+        return byte_line(byte_at(rest, 0));
     }
+    instruction_line(a, byte_at(rest, 1), byte_at(rest, 2), found)
 }
 
 fn put_if(text: &mut [u8], place: usize, c: u8, here: bool)
@@ -209,12 +206,14 @@ fn put_lines(bytes: &[u8], start: u16, text: &mut [u8])
     let mut a = start;
     let mut at = 0;
     while !rest.is_empty() {
-        let found = whole_in(rest);
-        let extent = extent_of(found);
-        put_line(text, at, &line_of(found, a, rest), extent.count);
-        at += extent.count;
-        a = a.wrapping_add(extent.size as u16);
-        rest = &rest[extent.size..];
+        let found = find(rest);
+        let line = line_of(found, a, rest);
+        let count = count_with(found);
+        let size = size_of(found.shape);
+        put_line(text, at, &line, count);
+        at += count;
+        a = a.wrapping_add(size as u16);
+        rest = &rest[size..];
     }
 }
 

@@ -10,18 +10,18 @@ pub returns-then-room-count : goal.returns-then-room-count
 returns-then-room-count c =
     let l = c.loop-rest in
     let some = some_left l.rest.now c.is_empty.ensures c.loop-rest-test.true in
-    let more = longer l.rest.now some (rw c.whole_in.ensures at c.extent_of-extent.ensures) 0 0 in
+    let more = longer l.rest.now some c.find-found.ensures 0 0 in
     let all = length (text_of 0 c.args.bytes.now) in
-    let few : c.args.room < all = omega (arith, more, l.invariant.counted, c.if-room-count.true) in
+    let few : c.args.room < all = omega (arith, more, l.invariant.counted, c.count_with-more.ensures, c.if-room-count.true) in
     rw (lt-leb all c.args.room few)
 
 pub loop-rest-preserved : goal.loop-rest-preserved
 loop-rest-preserved c =
     let l = c.loop-rest in
-    let m = c.extent_of-extent.result in
+    let size = c.size_of.result in
     let some = some_left l.rest.now c.is_empty.ensures c.loop-rest-test.true in
-    let more = longer l.rest.now some (rw c.whole_in.ensures at c.extent_of-extent.ensures) 0 0 in
-    let counted : l.count + m.count + length (text_of 0 (drop m.size l.rest.now)) ≡ length (text_of 0 c.args.bytes.now)
+    let more = rw (← c.size_of.ensures, ← c.count_with-more.ensures) at (longer l.rest.now some c.find-found.ensures 0 0) in
+    let counted : l.count + c.count_with-more.result + length (text_of 0 (drop size l.rest.now)) ≡ length (text_of 0 c.args.bytes.now)
     = omega (arith, more, l.invariant.counted) in
     record { fits = omega arith; counted = rw take_rest counted }
 

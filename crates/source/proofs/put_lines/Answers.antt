@@ -8,19 +8,19 @@ pub put_line-requires : goal.put_line-requires
 put_line-requires c =
     let l = c.loop-rest in
     let some = some_left l.rest.now c.is_empty.ensures c.loop-rest-test.true in
-    let m = rw c.whole_in-found.ensures at c.extent_of-extent.ensures in
-    let room = putting_room (text_of c.args.start c.args.bytes.now) c.args.text.now l.text l.rest.now l.a l.at l.invariant some m in
-    let within = rw (← c.extent_of-extent.ensures.characters) at c.line_of.ensures.within in
-    (within, omega (arith, room, c.requires, l.auto.text))
+    let room = putting_room (text_of c.args.start c.args.bytes.now) c.args.text.now l.text l.rest.now l.a l.at l.invariant some
+    c.find-found.ensures in
+    let count = c.count_with-count.ensures in
+    (rw count c.line_of-line.ensures.within, omega (arith, count, room, c.requires, l.auto.text))
 
 pub loop-rest-preserved : goal.loop-rest-preserved
 loop-rest-preserved c =
     let l = c.loop-rest in
     let some = some_left l.rest.now c.is_empty.ensures c.loop-rest-test.true in
-    let m = rw c.whole_in-found.ensures at c.extent_of-extent.ensures in
-    rw take_rest
-    (putting_more (text_of c.args.start c.args.bytes.now) c.args.text.now l.text l.rest.now l.a l.at l.invariant some m c.line_of.result _
-    (rw c.whole_in-found.ensures at c.line_of.ensures) c.put_line.ensures)
+    let put = rw c.count_with-count.ensures at c.put_line.ensures in
+    rw (take_rest, c.size_of-size.ensures, c.count_with-count.ensures)
+    (putting_more (text_of c.args.start c.args.bytes.now) c.args.text.now l.text l.rest.now l.a l.at l.invariant some c.find-found.ensures
+    c.line_of-line.result _ c.line_of-line.ensures put)
 
 pub returns : goal.returns
 returns c =
