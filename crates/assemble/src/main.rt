@@ -6,7 +6,6 @@ ghost use Rattle.std.specs.Prelude.{◌<◌, ◌≤◌, length, take, IsNone};
 ghost use Rattle.std.specs.Io.KnownBytes.{Consumes, IsAtEnd};
 
 use assembly_rules::{Assembly, Fault};
-use operands::Found;
 use std::env::{Env, FillError};
 use std::io;
 use std::io::Read;
@@ -34,13 +33,8 @@ fn start_of(word: &[u8]) -> Start {
         return Start::Nowhere;
     }
     match operands::number(word, 0) {
-        Found::Value(start, four, _at) => {
-            if four {
-                return Start::At(start);
-            }
-            Start::Nowhere
-        }
-        Found::Nowhere => Start::Nowhere,
+        Some(found) if found.four => Start::At(found.value),
+        _ => Start::Nowhere,
     }
 }
 

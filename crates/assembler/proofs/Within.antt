@@ -1,10 +1,11 @@
 -- What is made has room.
-use Rattle.std.proofs.Common.{◌≡◌, ℕ, suc, ◌≤◌, leb, List, [], ◌∷◌, ◌++◌, length, arith, length-append, leb-true}
+use Rattle.std.proofs.Common.{◌≡◌, ℕ, suc, ◌≤◌, leb, List, [], ◌∷◌, ◌++◌, length, arith, length-append, leb-true, Result, Ok, Err}
 use Rattle.rules.specs.Basics.{sum16}
 use Rattle.laws.proofs.Tests.{if_case}
+use Rattle.assembly_rules.specs.declared.Fault.{Fault}
 use Rattle.assembly_rules.specs.declared.Fault.TheVariants.{NoRoom}
 use Rattle.assembly_rules.specs.declared.Line.{Line}
-use Rattle.assembly_rules.specs.declared.Line.TheVariants.{Nothing, One, Two, Three, Wrong}
+use Rattle.assembly_rules.specs.declared.Line.TheVariants.{Nothing, One, Two, Three}
 use Rattle.assembly_rules.specs.declared.Assembly.TheVariants.{Assembled}
 use Rattle.assembly_rules.specs.Lines.{line_of}
 use Rattle.assembly_rules.specs.Assembly.{lines_of, Made, made, wrong, fitted, judged, lines, assembled, answer}
@@ -20,12 +21,12 @@ module _ (room n : ℕ) (before : List ℕ) (go_on : List ℕ → Made)
       if_case (Within room) (leb _ room) (go_on (before ++ bytes)) (wrong NoRoom n)
       (λ t. h (before ++ bytes) (rw (length-append before bytes) (leb-true _ room t))) (λ f. tt)
 
-  judged_within : (l : Line) → Within room (judged room n before go_on l)
-  judged_within Nothing = fitted_within []
-  judged_within (One a) = fitted_within (a ∷ [])
-  judged_within (Two a b) = fitted_within (a ∷ b ∷ [])
-  judged_within (Three a b c) = fitted_within (a ∷ b ∷ c ∷ [])
-  judged_within (Wrong e) = tt
+  judged_within : (l : Result Line Fault) → Within room (judged room n before go_on l)
+  judged_within (Ok Nothing) = fitted_within []
+  judged_within (Ok (One a)) = fitted_within (a ∷ [])
+  judged_within (Ok (Two a b)) = fitted_within (a ∷ b ∷ [])
+  judged_within (Ok (Three a b c)) = fitted_within (a ∷ b ∷ c ∷ [])
+  judged_within (Err e) = tt
 
 lines_within : (start room n : ℕ) (before : List ℕ) (ls : List (List ℕ)) → length before ≤ room → Within room (lines start room n before ls)
 unfolding lines

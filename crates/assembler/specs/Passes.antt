@@ -1,10 +1,11 @@
 -- What a pass over a text comes to, line by line.
-use Rattle.std.specs.Prelude.{◌≡◌, ℕ, ◌+◌, Bool, true, false, ◌&&◌, List, [], ◌∷◌, ◌==◌, nat_le}
+use Rattle.std.specs.Prelude.{◌≡◌, ℕ, ◌+◌, Bool, true, false, ◌&&◌, List, [], ◌∷◌, ◌==◌, nat_le, Result, Ok, Err}
 use Rattle.rules.specs.Basics.{when◌then◌else◌}
 use Rattle.rules.specs.Step.{front}
+use Rattle.assembly_rules.specs.declared.Fault.{Fault}
 use Rattle.assembly_rules.specs.declared.Fault.TheVariants.{NoRoom}
 use Rattle.assembly_rules.specs.declared.Line.{Line}
-use Rattle.assembly_rules.specs.declared.Line.TheVariants.{Nothing, One, Two, Three, Wrong}
+use Rattle.assembly_rules.specs.declared.Line.TheVariants.{Nothing, One, Two, Three}
 use Rattle.assembly_rules.specs.declared.Assembly.{Assembly}
 use Rattle.assembly_rules.specs.Assembly.{begins_with_lf, Made, made, answer}
 use Rattle.assembler.specs.declared.Step.{Step}
@@ -15,23 +16,23 @@ abbrev pub ending : List ℕ → ℕ
 ending [] = 0
 ending (c ∷ s) = when c == 10 then 1 else when c == 13 && begins_with_lf s then 2 else 0
 
-abbrev pub bytes_of : Line → List ℕ
-bytes_of Nothing = []
-bytes_of (One a) = a ∷ []
-bytes_of (Two a b) = a ∷ b ∷ []
-bytes_of (Three a b c) = a ∷ b ∷ c ∷ []
-bytes_of (Wrong e) = []
+abbrev pub bytes_of : Result Line Fault → List ℕ
+bytes_of (Ok Nothing) = []
+bytes_of (Ok (One a)) = a ∷ []
+bytes_of (Ok (Two a b)) = a ∷ b ∷ []
+bytes_of (Ok (Three a b c)) = a ∷ b ∷ c ∷ []
+bytes_of (Err e) = []
 
 -- so many bytes more, behind the first count
 abbrev pub fitted_to : ℕ → ℕ → ℕ → Step
 fitted_to room count size = when nat_le (count + size) room then Go (count + size) else Stop NoRoom
 
-abbrev pub step_to : ℕ → ℕ → Line → Step
-step_to room count Nothing = fitted_to room count 0
-step_to room count (One a) = fitted_to room count 1
-step_to room count (Two a b) = fitted_to room count 2
-step_to room count (Three a b c) = fitted_to room count 3
-step_to room count (Wrong e) = Stop e
+abbrev pub step_to : ℕ → ℕ → Result Line Fault → Step
+step_to room count (Ok Nothing) = fitted_to room count 0
+step_to room count (Ok (One a)) = fitted_to room count 1
+step_to room count (Ok (Two a b)) = fitted_to room count 2
+step_to room count (Ok (Three a b c)) = fitted_to room count 3
+step_to room count (Err e) = Stop e
 
 -- a pass that writes, or only judges
 pub record Passes (m : Made) (writing : Bool) (a : Assembly) (buffer buffer' : List ℕ) : Type 0 where
