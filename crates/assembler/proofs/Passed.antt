@@ -1,12 +1,12 @@
 -- What a pass has made so far, line by line.
-use Rattle.std.proofs.Common.{◌≡◌, ℕ, suc, ◌+◌, ◌≤◌, Bool, true, false, leb, List, [], ◌∷◌, ◌++◌, length, drop, Ok, Err, sym, refl}
+use Rattle.std.proofs.Common.{◌≡◌, ℕ, suc, ◌+◌, ◌≤◌, Bool, true, false, leb, List, [], ◌∷◌, ◌++◌, length, drop, Result, Ok, Err, sym, refl}
 use Rattle.std.proofs.Common.{ap, ◌∙◌, add-one, arith, length-append, length-drop, drop-drop, leb-true}
 use lib.Seq.{sets, sets-eq, drop-append-add, take-append_seam}
 use Rattle.rules.specs.Basics.{when◌then◌else◌, sum16}
 use Rattle.rules.specs.Step.{front}
 use Rattle.assembly_rules.specs.declared.Fault.{Fault}
 use Rattle.assembly_rules.specs.declared.Line.{Line}
-use Rattle.assembly_rules.specs.declared.Line.TheVariants.{Nothing, One, Two, Three, Wrong}
+use Rattle.assembly_rules.specs.declared.Line.TheVariants.{Nothing, One, Two, Three}
 use Rattle.assembly_rules.specs.declared.BadLine.{BadLine}
 use Rattle.assembly_rules.specs.Lines.{line_of}
 use Rattle.assembly_rules.specs.Assembly.{lines_of, Made, made, wrong, fitted, judged, lines, assembled}
@@ -31,13 +31,13 @@ module _ (room n count : ℕ) (before : List ℕ) (go_on : List ℕ → Made) (e
           record { same = refl; size = t; fits = rw t (leb-true (count + length bytes) room f) }
       go false f g = cc
 
-  pub judged_go : (total : ℕ) (l : Line) → step_to room count l ≡ Ok total →
+  pub judged_go : (total : ℕ) (l : Result Line Fault) → step_to room count l ≡ Ok total →
       Goes room n count total before (bytes_of l) go_on (judged room n before go_on l)
-  judged_go total Nothing h = fits_go total [] h
-  judged_go total (One a) h = fits_go total (a ∷ []) h
-  judged_go total (Two a b) h = fits_go total (a ∷ b ∷ []) h
-  judged_go total (Three a b c) h = fits_go total (a ∷ b ∷ c ∷ []) h
-  judged_go total (Wrong f) h = cc
+  judged_go total (Ok Nothing) h = fits_go total [] h
+  judged_go total (Ok (One a)) h = fits_go total (a ∷ []) h
+  judged_go total (Ok (Two a b)) h = fits_go total (a ∷ b ∷ []) h
+  judged_go total (Ok (Three a b c)) h = fits_go total (a ∷ b ∷ c ∷ []) h
+  judged_go total (Err f) h = cc
 
   fits_stop : (f : Fault) (bytes : List ℕ) → fitted_to room count (length bytes) ≡ Err f → fitted room n before go_on bytes ≡ wrong f n
   fits_stop f bytes h = rw e (go (leb (count + length bytes) room) h)
@@ -47,12 +47,12 @@ module _ (room n count : ℕ) (before : List ℕ) (go_on : List ℕ → Made) (e
       go true g = cc
       go false g = let t : Fault.NoRoom ≡ f = cc in rw t
 
-  pub judged_stop : (f : Fault) (l : Line) → step_to room count l ≡ Err f → judged room n before go_on l ≡ wrong f n
-  judged_stop f Nothing h = fits_stop f [] h
-  judged_stop f (One a) h = fits_stop f (a ∷ []) h
-  judged_stop f (Two a b) h = fits_stop f (a ∷ b ∷ []) h
-  judged_stop f (Three a b c) h = fits_stop f (a ∷ b ∷ c ∷ []) h
-  judged_stop f (Wrong g) h = let t : g ≡ f = cc in rw t
+  pub judged_stop : (f : Fault) (l : Result Line Fault) → step_to room count l ≡ Err f → judged room n before go_on l ≡ wrong f n
+  judged_stop f (Ok Nothing) h = fits_stop f [] h
+  judged_stop f (Ok (One a)) h = fits_stop f (a ∷ []) h
+  judged_stop f (Ok (Two a b)) h = fits_stop f (a ∷ b ∷ []) h
+  judged_stop f (Ok (Three a b c)) h = fits_stop f (a ∷ b ∷ c ∷ []) h
+  judged_stop f (Err g) h = let t : g ≡ f = cc in rw t
 
 front_size : (before buffer : List ℕ) → length before ≤ length buffer → length (front before buffer) ≡ length buffer
 front_size before buffer h =
@@ -116,7 +116,7 @@ module _ (text : List ℕ) (start : ℕ) (buffer : List ℕ) (writing : Bool) wh
               p.kept ∙ (rw (w, same));
         }
 
-    module _ (line behind : List ℕ) (c : Cuts rest line behind) (l : Line) (room : ℕ) (here : l ≡ line_of (sum16 start count) line)
+    module _ (line behind : List ℕ) (c : Cuts rest line behind) (l : Result Line Fault) (room : ℕ) (here : l ≡ line_of (sum16 start count) line)
         (long : room ≡ length buffer) where
       -- the lines behind the next
       abbrev later : List ℕ → Made

@@ -50,42 +50,42 @@ fn fitted(room: usize, count: usize, size: usize) -> Result<usize, Fault>
     Ok(count + size)
 }
 
-fn step_to(room: usize, count: usize, l: Line) -> Result<usize, Fault>
+fn step_to(room: usize, count: usize, l: Result<Line, Fault>) -> Result<usize, Fault>
     requires { count ≤ room }
     ensures { result ≡ step_to room count l }
 {
     match l {
-        Line::Nothing => fitted(room, count, 0),
-        Line::One(_a) => fitted(room, count, 1),
-        Line::Two(_a, _b) => fitted(room, count, 2),
-        Line::Three(_a, _b, _c) => fitted(room, count, 3),
-        Line::Wrong(e) => Err(e),
+        Ok(Line::Nothing) => fitted(room, count, 0),
+        Ok(Line::One(_a)) => fitted(room, count, 1),
+        Ok(Line::Two(_a, _b)) => fitted(room, count, 2),
+        Ok(Line::Three(_a, _b, _c)) => fitted(room, count, 3),
+        Err(e) => Err(e),
     }
 }
 
-fn put_line(bytes: &mut [u8], at: usize, l: Line)
+fn put_line(bytes: &mut [u8], at: usize, l: Result<Line, Fault>)
     requires { at + length (bytes_of l) ≤ length bytes.old }
     ensures { bytes.new ≡ sets bytes.old at (bytes_of l) }
 {
     match l {
-        Line::Nothing => {}
-        Line::One(a) => {
+        Ok(Line::Nothing) => {}
+        Ok(Line::One(a)) => {
             bytes[at] = a;
         }
-        Line::Two(a, b) => {
+        Ok(Line::Two(a, b)) => {
             bytes[at] = a;
             bytes[at + 1] = b;
         }
-        Line::Three(a, b, c) => {
+        Ok(Line::Three(a, b, c)) => {
             bytes[at] = a;
             bytes[at + 1] = b;
             bytes[at + 2] = c;
         }
-        Line::Wrong(_e) => {}
+        Err(_e) => {}
     }
 }
 
-fn put_if(bytes: &mut [u8], at: usize, l: Line, writing: bool)
+fn put_if(bytes: &mut [u8], at: usize, l: Result<Line, Fault>, writing: bool)
     requires { at + length (bytes_of l) ≤ length bytes.old }
     ensures { bytes.new ≡ (when writing then sets bytes.old at (bytes_of l) else bytes.old) }
 {

@@ -6,10 +6,11 @@ use mathlib.Core.Bool.{Bool, true, false}
 use mathlib.Core.List.{List, [], ◌∷◌, ◌++◌}
 use lib.Dec.{leb}
 use lib.ListN.{length, length-append}
+use Rattle.std.specs.Prelude.{Result, Ok, Err}
 use Rattle.rules.specs.Basics.{when◌then◌else◌, sum16}
 use Rattle.assembly_rules.specs.declared.Fault.{Fault}
 use Rattle.assembly_rules.specs.declared.Line.{Line}
-use Rattle.assembly_rules.specs.declared.Line.TheVariants.{Nothing, One, Two, Three, Wrong}
+use Rattle.assembly_rules.specs.declared.Line.TheVariants.{Nothing, One, Two, Three}
 use Rattle.assembly_rules.specs.Lines.{line_of}
 use Rattle.assembly_rules.specs.Assembly.{lines_of, Made, made, wrong, fitted, judged, lines, assembled}
 use Rattle.assembly_rules.proofs.Cases.{texts, faults, listings}
@@ -26,12 +27,12 @@ module _ (room n k : ℕ) (before : List ℕ) (go_on : List ℕ → Made)
       go true all e = rest bytes h all e
       go false all e = let z : ◌≡◌ {A = ℕ} 0 1 = cc in absurd (omega arith)
 
-  judged_within : (l : Line) → Within (length before + 3 + k) (judged room n before go_on l)
-  judged_within Nothing all e = fitted_within [] (omega arith) all e
-  judged_within (One a) all e = fitted_within (a ∷ []) (omega arith) all e
-  judged_within (Two a b) all e = fitted_within (a ∷ b ∷ []) (omega arith) all e
-  judged_within (Three a b c) all e = fitted_within (a ∷ b ∷ c ∷ []) (omega arith) all e
-  judged_within (Wrong f) all e = let z : ◌≡◌ {A = ℕ} 0 1 = cc in absurd (omega arith)
+  judged_within : (l : Result Line Fault) → Within (length before + 3 + k) (judged room n before go_on l)
+  judged_within (Ok Nothing) all e = fitted_within [] (omega arith) all e
+  judged_within (Ok (One a)) all e = fitted_within (a ∷ []) (omega arith) all e
+  judged_within (Ok (Two a b)) all e = fitted_within (a ∷ b ∷ []) (omega arith) all e
+  judged_within (Ok (Three a b c)) all e = fitted_within (a ∷ b ∷ c ∷ []) (omega arith) all e
+  judged_within (Err f) all e = let z : ◌≡◌ {A = ℕ} 0 1 = cc in absurd (omega arith)
 
 module _ (start room : ℕ) where
   lines_within : (ls : List (List ℕ)) (n : ℕ) (before : List ℕ) → Within (length before + 3 * length ls) (lines start room n before ls)

@@ -9,6 +9,8 @@ use borrow.Author.Tests.{eqb-true, leb-true, lt-ltb, le-ltb, le-leb}
 use lib.Dec.{ltb, leb, eqb}
 use lib.ListN.{length, take, drop, length-append, length-drop, take-append-drop}
 use lib.Seq.{get_or-drop, length-take-le, take-append_seam}
+use Rattle.std.specs.Prelude.{Option, Some, None, is_none, Ok}
+use Rattle.std.specs.Option.{option_eq}
 use Rattle.rules.specs.Basics.{when◌then◌else◌, all, at, sum16}
 use Rattle.rules.specs.Opcodes.{Entry, decode, size_of, is_defined, instruction_of}
 use Rattle.rules.specs.Operations.{target}
@@ -20,13 +22,14 @@ use Rattle.laws.proofs.Tests.{and_left, and_right, all_at, if_case}
 use Rattle.laws.proofs.Counts.{Bytes}
 use Rattle.assembly_rules.specs.declared.Shape.{Shape}
 use Rattle.assembly_rules.specs.declared.Shape.TheVariants as shape
+use Rattle.assembly_rules.specs.declared.Operand.{Operand}
 use Rattle.assembly_rules.specs.declared.Fault.{Fault}
 use Rattle.assembly_rules.specs.declared.Line.{Line}
 use Rattle.assembly_rules.specs.declared.Line.TheVariants.{One, Two, Three}
 use Rattle.assembly_rules.specs.Characters.{said, run, skip}
 use Rattle.assembly_rules.specs.Operands.{operand}
-use Rattle.assembly_rules.specs.Mnemonics.{byte_name, name_of, shape_of, numbered, opcode_of, has, is_mnemonic}
-use Rattle.assembly_rules.specs.Lines.{branch_line, coded, valued, written, line_of}
+use Rattle.assembly_rules.specs.Mnemonics.{byte_name, name_of, shape_of, numbered, opcode_of, is_mnemonic}
+use Rattle.assembly_rules.specs.Lines.{branch_line, coded, with_operand, written, line_of}
 use Rattle.assembly_rules.specs.Assembly.{lines_of, Made, made, wrong, fitted, judged, lines, assembled, told, assemble_words}
 use Rattle.assembly_rules.specs.Listing.{letters_of, operand_text, Listed, instruction_line, line_at, text_of, list_words}
 use Rattle.assembly_rules.proofs.Listings.{line_size, text_first, text_none}
@@ -51,16 +54,17 @@ line_for shape.AbsoluteY n low high = Three n low high
 line_for shape.Indirect n low high = Three n low high
 
 -- "Branch operands are target addresses", at the edges too
-branch_read : (n a low : ℕ) → low < 256 → branch_line n a (target (sum16 a 2) low) ≡ Two n low
+branch_read : (n a low : ℕ) → low < 256 → branch_line n a (target (sum16 a 2) low) ≡ Ok (Two n low)
 branch_read n a low h = go (dec_le 128 low)
   where
-    go : Dec (128 ≤ low) → branch_line n a (target (sum16 a 2) low) ≡ Two n low
+    go : Dec (128 ≤ low) → branch_line n a (target (sum16 a 2) low) ≡ Ok (Two n low)
     go (yes l) =
         let e : (target (sum16 a 2) low + (65536 - sum16 a 2)) % 65536 ≡ low + 65280 = omega arith in
-        rw e (rw (le-ltb (low + 65280) 128 (omega arith), le-leb 65408 (low + 65280) (omega arith)) (ap (Two n) (omega arith)))
+        rw e
+        (rw (le-ltb (low + 65280) 128 (omega arith), le-leb 65408 (low + 65280) (omega arith)) (ap (λ (o : ℕ). Ok (Two n o)) (omega arith)))
     go (no l) =
         let e : (target (sum16 a 2) low + (65536 - sum16 a 2)) % 65536 ≡ low = omega arith in
-        rw e (rw (lt-ltb low 128 (omega arith)) (ap (Two n) (omega arith)))
+        rw e (rw (lt-ltb low 128 (omega arith)) (ap (λ (o : ℕ). Ok (Two n o)) (omega arith)))
 
 module _ (a m low high : ℕ) (f : low < 256) (g : high < 256) where
   low_again : (high * 256 + low) % 256 ≡ low
@@ -72,21 +76,21 @@ module _ (a m low high : ℕ) (f : low < 256) (g : high < 256) where
   short : ltb low 256 ≡ true
   short = lt-ltb low 256 f
 
-  coded_read : (s : Shape) → has m s ≡ true → (eqb (numbered s) 8 ≡ false → has m shape.Relative ≡ false) →
-      coded a m (read_as a low high s) ≡ line_for s (opcode_of m s) low high
-  coded_read shape.Implied h r = rw h
-  coded_read shape.Accumulator h r = rw h
-  coded_read shape.Immediate h r = rw (h, short)
-  coded_read shape.Zero h r = rw (r refl, h, short)
-  coded_read shape.ZeroX h r = rw (h, short)
-  coded_read shape.ZeroY h r = rw (h, short)
-  coded_read shape.IndirectX h r = rw (h, short)
-  coded_read shape.IndirectY h r = rw (h, short)
-  coded_read shape.Relative h r = rw h (branch_read (opcode_of m shape.Relative) a low f)
-  coded_read shape.Absolute h r = rw (r refl, h, low_again, high_again)
-  coded_read shape.AbsoluteX h r = rw (h, low_again, high_again)
-  coded_read shape.AbsoluteY h r = rw (h, low_again, high_again)
-  coded_read shape.Indirect h r = rw (h, low_again, high_again)
+  coded_read : (s : Shape) (n : ℕ) → opcode_of m s ≡ Some n → (eqb (numbered s) 8 ≡ false → opcode_of m shape.Relative ≡ None) →
+      coded a m (read_as a low high s) ≡ Ok (line_for s n low high)
+  coded_read shape.Implied n h r = rw h
+  coded_read shape.Accumulator n h r = rw h
+  coded_read shape.Immediate n h r = rw (h, short)
+  coded_read shape.Zero n h r = rw (r refl, h, short)
+  coded_read shape.ZeroX n h r = rw (h, short)
+  coded_read shape.ZeroY n h r = rw (h, short)
+  coded_read shape.IndirectX n h r = rw (h, short)
+  coded_read shape.IndirectY n h r = rw (h, short)
+  coded_read shape.Relative n h r = rw h (branch_read n a low f)
+  coded_read shape.Absolute n h r = rw (r refl, h, low_again, high_again)
+  coded_read shape.AbsoluteX n h r = rw (h, low_again, high_again)
+  coded_read shape.AbsoluteY n h r = rw (h, low_again, high_again)
+  coded_read shape.Indirect n h r = rw (h, low_again, high_again)
 
 -- Plain characters, and what no name and no number goes on with.
 
@@ -158,13 +162,13 @@ module _ (c d e p q r : ℕ) (x : Digit c p) (y : Digit d q) (z : Digit e r) (f 
       )
       (k (((1 * 36 + p) * 36 + q) * 36 + r))
 
-name_read : (a m : ℕ) (t : List ℕ) → Named m → ((v : ℕ) → run 36 1 v t ≡ record { value = v; left = 1; rest = t }) →
-    written a (letters_of m ++ t) ≡ coded a m (operand t)
-name_read a m t n k =
+name_read : (a m : ℕ) (t : List ℕ) (o : Operand) → Named m → ((v : ℕ) → run 36 1 v t ≡ record { value = v; left = 1; rest = t }) →
+    operand t ≡ Some o → written a (letters_of m ++ t) ≡ coded a m o
+name_read a m t o n k e =
     let letters = letters_read (digit (m / 1296 % 36)) (digit (m / 36 % 36)) (digit (m % 36)) (m / 1296 % 36) (m / 36 % 36) (m % 36)
     (digit_known (m / 1296 % 36) (omega arith)) (digit_known (m / 36 % 36) (omega arith)) (digit_known (m % 36) (omega arith))
     (omega arith) (omega arith) (omega arith) t k in
-    rw (letters, n.spelt, n.some, n.other, n.known)
+    rw (letters, e, n.spelt, n.some, n.other, n.known)
 
 plain_letters : (m : ℕ) → Plain (letters_of m)
 plain_letters m =
@@ -207,7 +211,8 @@ is_named m = eqb (respelt m) m && is_mnemonic m && not (eqb m 1) && not (eqb m b
 abbrev is_good : ℕ → Entry → ℕ → Shape → Bool
 is_good n e m s =
     not (is_defined e) ||
-    (eqb (opcode_of m s) n && eqb (size_of e) (size_for s) && (eqb (numbered s) 8 || not (has m shape.Relative)) && is_named m)
+    (option_eq eqb (opcode_of m s) (Some n) && eqb (size_of e) (size_for s) &&
+    (eqb (numbered s) 8 || is_none (opcode_of m shape.Relative)) && is_named m)
 
 abbrev good : ℕ → Bool
 good n = is_good n (decode n) (name_at 0 0 (decode n)) (shape_at 0 0 (decode n))
@@ -227,9 +232,9 @@ module _ (low high : ℕ) where
 
 -- what is known of an opcode that is defined
 record Good (n : ℕ) (e : Entry) (m : ℕ) (s : Shape) : Type 0 where
-  opcode : opcode_of m s ≡ n
+  opcode : opcode_of m s ≡ Some n
   size : size_of e ≡ size_for s
-  branch : eqb (numbered s) 8 ≡ false → has m shape.Relative ≡ false
+  branch : eqb (numbered s) 8 ≡ false → opcode_of m shape.Relative ≡ None
   named : Named m
 
 four : (a b c d : Bool) → (a && b && c && d) ≡ true → (a ≡ true) × (b ≡ true) × (c ≡ true) × (d ≡ true)
@@ -243,6 +248,14 @@ otherwise : (a b : Bool) → (a || b) ≡ true → a ≡ false → b ≡ true
 otherwise true b h e = absurd (false≢true (sym e))
 otherwise false b h e = h
 
+is_this : (o : Option ℕ) (n : ℕ) → option_eq eqb o (Some n) ≡ true → o ≡ Some n
+is_this None n h = absurd (false≢true h)
+is_this (Some k) n h = ap Some (eqb-true k n h)
+
+is_nothing : (o : Option ℕ) → is_none o ≡ true → o ≡ None
+is_nothing None h = refl
+is_nothing (Some k) h = absurd (false≢true h)
+
 is_named_lem : (m : ℕ) → is_named m ≡ true → Named m
 is_named_lem m h =
     let k = four (eqb (respelt m) m) (is_mnemonic m) (not (eqb m 1)) (not (eqb m byte_name)) h in
@@ -251,11 +264,12 @@ is_named_lem m h =
 is_good_lem : (n : ℕ) (e : Entry) (m : ℕ) (s : Shape) → is_good n e m s ≡ true → is_defined e ≡ true → Good n e m s
 is_good_lem n e m s h d =
     let r = otherwise (not (is_defined e)) _ h (rw d) in
-    let k = four (eqb (opcode_of m s) n) (eqb (size_of e) (size_for s)) (eqb (numbered s) 8 || not (has m shape.Relative)) (is_named m) r in
+    let k = four (option_eq eqb (opcode_of m s) (Some n)) (eqb (size_of e) (size_for s))
+    (eqb (numbered s) 8 || is_none (opcode_of m shape.Relative)) (is_named m) r in
     record {
-      opcode = eqb-true _ _ k.0;
+      opcode = is_this _ n k.0;
       size = eqb-true _ _ k.1;
-      branch = λ f. negated _ (otherwise (eqb (numbered s) 8) (not (has m shape.Relative)) k.2 f);
+      branch = λ f. is_nothing _ (otherwise (eqb (numbered s) 8) (is_none (opcode_of m shape.Relative)) k.2 f);
       named = is_named_lem m k.3;
     }
 
@@ -315,7 +329,7 @@ module _ (bytes : List ℕ) where
 
 module _ (room n : ℕ) (before : List ℕ) (go_on : List ℕ → Made) where
   judged_for : (s : Shape) (opcode second third : ℕ) →
-      judged room n before go_on (line_for s opcode second third) ≡ fitted room n before go_on (bytes_for s opcode second third)
+      judged room n before go_on (Ok (line_for s opcode second third)) ≡ fitted room n before go_on (bytes_for s opcode second third)
   judged_for shape.Implied opcode second third = refl
   judged_for shape.Accumulator opcode second third = refl
   judged_for shape.Immediate opcode second third = refl
@@ -348,15 +362,14 @@ module _ (a : ℕ) (bytes : List ℕ) (small : Bytes bytes) (some : 0 < length b
       })
   again_whole d l =
       let k = good_at (first bytes) (low bytes) (high bytes) (small 0) d in
-      let there : has m s ≡ true = rw k.opcode (lt-ltb (first bytes) 256 (small 0)) in
       let plain = plain_append (letters_of m) (operand_text a (low bytes) (high bytes) s) (plain_letters m)
       (plain_operand a (low bytes) (high bytes) (small 1) (small 2) s) in
-      let read : line_of a (letters_of m ++ operand_text a (low bytes) (high bytes) s) ≡ line_for s (first bytes) (low bytes) (high bytes)
+      let read : line_of a (letters_of m ++ operand_text a (low bytes) (high bytes) s) ≡
+      Ok (line_for s (first bytes) (low bytes) (high bytes))
       = line_plain a (letters_of m ++ operand_text a (low bytes) (high bytes) s) plain
-      ∙ name_read a m (operand_text a (low bytes) (high bytes) s) k.named (begins a (low bytes) (high bytes) (small 1) (small 2) s)
-      ∙ ap (coded a m) (operand_read a (low bytes) (high bytes) (small 1) (small 2) s)
-      ∙ coded_read a m (low bytes) (high bytes) (small 1) (small 2) s there k.branch
-      ∙ ap (λ (o : ℕ). line_for s o (low bytes) (high bytes)) k.opcode in
+      ∙ name_read a m (operand_text a (low bytes) (high bytes) s) (read_as a (low bytes) (high bytes) s) k.named
+      (begins a (low bytes) (high bytes) (small 1) (small 2) s) (operand_read a (low bytes) (high bytes) (small 1) (small 2) s)
+      ∙ coded_read a m (low bytes) (high bytes) (small 1) (small 2) s (first bytes) k.opcode k.branch in
       record {
         plain = plain;
         makes =
@@ -369,9 +382,9 @@ module _ (a : ℕ) (bytes : List ℕ) (small : Bytes bytes) (some : 0 < length b
   again_byte : Again a bytes (record { size = 1; text = said "BYTE $" ++ hex (first bytes) })
   again_byte =
       let plain = plain_byte (first bytes) (small 0) (said "BYTE $") [] refl refl in
-      let read : line_of a (said "BYTE $" ++ hex (first bytes)) ≡ One (first bytes)
+      let read : line_of a (said "BYTE $" ++ hex (first bytes)) ≡ Ok (One (first bytes))
       = line_plain a (said "BYTE $" ++ hex (first bytes)) plain
-      ∙ ap valued (operand_read a (first bytes) 0 (small 0) (omega arith) shape.Zero)
+      ∙ ap (with_operand a byte_name) (operand_read a (first bytes) 0 (small 0) (omega arith) shape.Zero)
       ∙ (rw (lt-ltb (first bytes) 256 (small 0))) in
       record {
         plain = plain;

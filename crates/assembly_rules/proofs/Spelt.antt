@@ -4,6 +4,7 @@ use native.Mathlib.Omega.{arith}
 use mathlib.Core.Path.{◌≡◌, refl, ap, ◌∙◌}
 use mathlib.Core.Bool.{true, false}
 use mathlib.Core.List.{List, [], ◌∷◌}
+use Rattle.std.specs.Prelude.{Some}
 use borrow.Author.Tests.{lt-ltb}
 use Rattle.rules.specs.Basics.{sum16}
 use Rattle.rules.specs.Operations.{target}
@@ -80,7 +81,7 @@ module _ (a low high : ℕ) (f : low < 256) (g : high < 256) where
       word_read (to % 256) (to / 256) (omega arith) (omega arith) t ∙ ap (λ (n : ℕ). value n true t) same
 
   -- by the 13 shapes
-  pub operand_read : (s : Shape) → operand (operand_text a low high s) ≡ read_as a low high s
+  pub operand_read : (s : Shape) → operand (operand_text a low high s) ≡ Some (read_as a low high s)
   unfolding operand term
   operand_read shape.Implied = refl
   operand_read shape.Accumulator = refl

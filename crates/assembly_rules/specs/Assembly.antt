@@ -6,7 +6,7 @@ use Rattle.rules.specs.Step.{front}
 use Rattle.assembly_rules.specs.declared.Fault.{Fault}
 use Rattle.assembly_rules.specs.declared.Fault.TheVariants.{NotALine, NoSuchMode, BranchTooFar, TooDeep, NoRoom}
 use Rattle.assembly_rules.specs.declared.Line.{Line}
-use Rattle.assembly_rules.specs.declared.Line.TheVariants.{Nothing, One, Two, Three, Wrong}
+use Rattle.assembly_rules.specs.declared.Line.TheVariants.{Nothing, One, Two, Three}
 use Rattle.assembly_rules.specs.declared.BadLine.{BadLine}
 use Rattle.assembly_rules.specs.Lines.{line_of}
 
@@ -35,12 +35,12 @@ pub data Made : Type 0 where
 abbrev pub fitted : ℕ → ℕ → List ℕ → (List ℕ → Made) → List ℕ → Made
 fitted room n before go_on bytes = when leb (length before + length bytes) room then go_on (before ++ bytes) else wrong NoRoom n
 
-abbrev pub judged : ℕ → ℕ → List ℕ → (List ℕ → Made) → Line → Made
-judged room n before go_on Nothing = fitted room n before go_on []
-judged room n before go_on (One a) = fitted room n before go_on (a ∷ [])
-judged room n before go_on (Two a b) = fitted room n before go_on (a ∷ b ∷ [])
-judged room n before go_on (Three a b c) = fitted room n before go_on (a ∷ b ∷ c ∷ [])
-judged room n before go_on (Wrong e) = wrong e n
+abbrev pub judged : ℕ → ℕ → List ℕ → (List ℕ → Made) → Result Line Fault → Made
+judged room n before go_on (Ok Nothing) = fitted room n before go_on []
+judged room n before go_on (Ok (One a)) = fitted room n before go_on (a ∷ [])
+judged room n before go_on (Ok (Two a b)) = fitted room n before go_on (a ∷ b ∷ [])
+judged room n before go_on (Ok (Three a b c)) = fitted room n before go_on (a ∷ b ∷ c ∷ [])
+judged room n before go_on (Err e) = wrong e n
 
 -- Line n and those behind it, where the lines before made these bytes: "for the first bad line". "Addresses wrap at 65,536."
 unfoldable pub lines : ℕ → ℕ → ℕ → List ℕ → List (List ℕ) → Made

@@ -1,6 +1,6 @@
 -- "the 56 mnemonics, modes written as in the data sheets": the name and the shape of each instruction of document 01, and the opcode that
 -- has them.
-use Rattle.std.specs.Prelude.{ℕ, ◌+◌, ◌*◌, Bool, false, ◌&&◌, ◌||◌, List, [], ◌∷◌, ltb, eqb}
+use Rattle.std.specs.Prelude.{ℕ, ◌+◌, ◌*◌, Bool, false, ◌&&◌, ◌||◌, List, [], ◌∷◌, Option, Some, None, eqb}
 use Prim.Native.Char.{code}
 use Prim.Native.String.{String, [] as none, ◌∷◌ as ◌then◌}
 use Rattle.rules.specs.declared.Mode.{Mode}
@@ -166,17 +166,14 @@ numbered shape.Indirect = 12
 abbrev pub row_of : Row → Instruction
 row_of r = instruction_of r.entry 0 0
 
--- the opcode of this name and shape among some rows; 256 where there is none
-abbrev pub opcode_among : List Row → ℕ → ℕ → ℕ
-opcode_among [] m s = 256
+-- the opcode of this name and shape among some rows, where one has them
+abbrev pub opcode_among : List Row → ℕ → ℕ → Option ℕ
+opcode_among [] m s = None
 opcode_among (r ∷ rs) m s =
-    when eqb (name_of (row_of r)) m && eqb (numbered (shape_of (row_of r))) s then r.opcode else opcode_among rs m s
+    when eqb (name_of (row_of r)) m && eqb (numbered (shape_of (row_of r))) s then Some r.opcode else opcode_among rs m s
 
-unfoldable pub opcode_of : ℕ → Shape → ℕ
+unfoldable pub opcode_of : ℕ → Shape → Option ℕ
 opcode_of m s = opcode_among rows m (numbered s)
-
-abbrev pub has : ℕ → Shape → Bool
-has m s = ltb (opcode_of m s) 256
 
 -- a mnemonic is the name of a row
 abbrev pub named_among : List Row → ℕ → Bool

@@ -32,7 +32,6 @@ pub enum Operand {
     IndirectX(u16),
     IndirectY(u16),
     Indirect(u16),
-    NotOne,
 }
 
 // Why a line, or a text, is refused.
@@ -45,14 +44,13 @@ pub enum Fault {
     NoRoom,
 }
 
-// The bytes that a line makes, or what is wrong with it.
+// The bytes that a line makes.
 #[derive(Clone, Copy)]
 pub enum Line {
     Nothing,
     One(u8),
     Two(u8, u8),
     Three(u8, u8, u8),
-    Wrong(Fault),
 }
 
 // What is wrong with a text, and in which line.

@@ -1,44 +1,34 @@
 -- A line's characters, one by one: where its comment begins, and how deep its brackets are.
-use Rattle.std.proofs.Common.{◌≡◌, ℕ, suc, ◌+◌, ◌-◌, ◌<◌, ◌≤◌, true, false, List, [], ◌∷◌, ◌++◌, length, take, drop, sym, append_assoc}
-use Rattle.std.proofs.Common.{append-nil, add-one, arith, take-suc, le-ltb, lt-ltb, eq-eqb, ne_eqb}
-use Rattle.rules.specs.Basics.{at}
-use Rattle.operands.proofs.Laws.{none_left, one_left}
-use Rattle.assembly_rules.specs.Lines.{content, opened, too_deep, written, line_of}
-use Rattle.assembly_rules.specs.declared.Fault.TheVariants.{TooDeep}
-use Rattle.assembly_rules.specs.declared.Line.{Line}
-use Rattle.assembly_rules.specs.declared.Line.TheVariants.{Wrong}
+use Rattle.std.proofs.Common.{◌≡◌, ℕ, suc, ◌+◌, ◌≤◌, Bool, true, false, not, cond, ltb, eqb, List, [], ◌∷◌, length, take}
+use Rattle.std.proofs.Common.{Some, None, unwrap_or, position, refl, sym, ap, ◌∙◌, arith, ltb-true, ltb-false, take_all}
+use Rattle.std.specs.List.{position_or_len}
+use Rattle.rules.specs.Basics.{when◌then◌else◌}
+use Rattle.assembly_rules.specs.Lines.{content}
 
-module _ (l : List ℕ) (n : ℕ) where
-  pub content_more : n < length l → (at l n ≡ 59 → ⊥) → take n l ++ content (drop n l) ≡ take (n + 1) l ++ content (drop (n + 1) l)
-  content_more h e =
-      rw (one_left l n h, ne_eqb _ _ e)
-      (rw (add-one n, take-suc l n 0 h) (sym (append_assoc (take n l) (at l n ∷ []) (content (drop (suc n) l)))))
+abbrev pub is_comment : ℕ → Bool
+is_comment c = eqb c 59
 
-  pub content_stop : n < length l → at l n ≡ 59 → take n l ++ content (drop n l) ≡ take n l
-  content_stop h e = rw (one_left l n h, eq-eqb _ _ e) (append-nil (take n l))
+content_at : (l : List ℕ) → content l ≡ take (position_or_len is_comment l) l
+content_at [] = refl
+content_at (c ∷ l) = go (is_comment c) (content_at l)
+  where
+    go : (b : Bool) → content l ≡ take (position_or_len is_comment l) l →
+        (when b then [] else c ∷ content l) ≡ take (cond (not b) (1 + position_or_len is_comment l) 0) (c ∷ l)
+    go true e = refl
+    go false e =
+        let more : 1 + position_or_len is_comment l ≡ suc (position_or_len is_comment l) = omega arith in
+        rw more (ap (λ (m : List ℕ). c ∷ m) e)
 
-  pub content_end : length l ≤ n → take n l ++ content (drop n l) ≡ take n l
-  content_end h = rw (none_left l n h) (append-nil (take n l))
+-- a line up to the semicolon that the search found, or all of it
+pub content_found : (l : List ℕ) (n : ℕ) → n ≡ unwrap_or (position is_comment l) (length l) → (content l ≡ take n l) × (n ≤ length l)
+content_found l n h = rw h (go (ltb k (length l)) refl)
+  where
+    k : ℕ
+    k = position_or_len is_comment l
 
-module _ (s : List ℕ) (k p : ℕ) where
-  pub deep_here : p < length s → 16 < opened k (at s p) → too_deep k (drop p s) ≡ true
-  deep_here h d = rw (one_left s p h, lt-ltb _ _ d)
-
-  pub deep_later : p < length s → opened k (at s p) ≤ 16 → too_deep k (drop p s) ≡ too_deep (opened k (at s p)) (drop (p + 1) s)
-  deep_later h d = rw (one_left s p h, le-ltb _ _ d)
-
-  pub deep_never : length s ≤ p → too_deep k (drop p s) ≡ false
-  deep_never h = rw (none_left s p h)
-
--- a line by its content, as it is lent
-module _ (a n : ℕ) (l : List ℕ) (e : content l ≡ take n l) where
-  lent : content l ≡ take (n - 0) l
-  lent = let z : n - 0 ≡ n = omega arith in rw z e
-
-  pub line_deep : too_deep 0 (take (n - 0) l) ≡ true → Wrong TooDeep ≡ line_of a l
-  unfolding line_of
-  line_deep h = rw (lent, h)
-
-  pub line_written : (r : Line) → too_deep 0 (take (n - 0) l) ≡ false → r ≡ written a (take (n - 0) l) → r ≡ line_of a l
-  unfolding line_of
-  line_written r h w = rw (lent, h) w
+    go : (b : Bool) → ltb k (length l) ≡ b →
+        (content l ≡ take (unwrap_or (cond b (Some k) None) (length l)) l) × (unwrap_or (cond b (Some k) None) (length l) ≤ length l)
+    go true e = let f = ltb-true k (length l) e in (content_at l, omega arith)
+    go false e =
+        let f = ltb-false k (length l) e in
+        (content_at l ∙ take_all k l f ∙ sym (take_all (length l) l (omega arith)), omega arith)

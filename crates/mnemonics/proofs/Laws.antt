@@ -1,10 +1,12 @@
 -- The rows of the 56 mnemonics say what the rows of the rules say: computed tests on the 56, and on the 151, and what follows of any name.
 use Prim.Native.Nat.{ℕ}
-use mathlib.Core.Path.{◌≡◌, refl, sym, ◌∙◌}
-use mathlib.Core.Bool.{Bool, true, false, ◌&&◌, not, false≢true}
+use mathlib.Core.Path.{◌≡◌, refl, sym, ap, ◌∙◌}
+use mathlib.Core.Bool.{Bool, true, false, ◌&&◌, false≢true}
 use mathlib.Core.List.{List, [], ◌∷◌}
 use borrow.Author.Tests.{eqb-true, ne_eqb}
 use lib.Dec.{eqb}
+use Rattle.std.specs.Prelude.{Option, Some, None, is_some, option_and_then}
+use Rattle.std.specs.Option.{option_eq}
 use Rattle.rules.specs.Basics.{when◌then◌else◌}
 use Rattle.rules.specs.Opcodes.{Row, rows}
 use Rattle.assembly_rules.specs.declared.Shape.{Shape}
@@ -53,12 +55,12 @@ at_name (k ∷ ks) f t m h = go (eqb m k.named) refl h (at_name ks f (and_right 
     go false e g rest = rest g
 
 -- no row of a name that is none of them
-row_none : (ks : List Known) (m : ℕ) → is_among ks m ≡ false → row_among ks m ≡ 0
+row_none : (ks : List Known) (m : ℕ) → is_among ks m ≡ false → row_among ks m ≡ None
 row_none [] m h = refl
 row_none (k ∷ ks) m h = go (eqb m k.named) h (row_none ks m)
   where
-    go : (b : Bool) → (when b then true else is_among ks m) ≡ false → (is_among ks m ≡ false → row_among ks m ≡ 0) →
-        (when b then k.row else row_among ks m) ≡ 0
+    go : (b : Bool) → (when b then true else is_among ks m) ≡ false → (is_among ks m ≡ false → row_among ks m ≡ None) →
+        (when b then Some k.row else row_among ks m) ≡ None
     go true g rest = absurd (false≢true (sym g))
     go false g rest = rest g
 
@@ -74,7 +76,7 @@ row_otherwise : (r : Row) (rs : List Row) (m : ℕ) → each_row (r ∷ rs) ≡ 
 row_otherwise r rs m t h =
     ne_eqb (name_of (made r)) m (λ e. false≢true (sym h ∙ (rw e at (and_left (is_among known (name_of (made r))) (each_row rs) t))))
 
-opcode_none : (rs : List Row) (m s : ℕ) → each_row rs ≡ true → is_among known m ≡ false → opcode_among rs m s ≡ 256
+opcode_none : (rs : List Row) (m s : ℕ) → each_row rs ≡ true → is_among known m ≡ false → opcode_among rs m s ≡ None
 opcode_none [] m s t h = refl
 opcode_none (r ∷ rs) m s t h = rw (row_otherwise r rs m t h) (opcode_none rs m s (rows_after r rs t) h)
 
@@ -82,43 +84,56 @@ named_none : (rs : List Row) (m : ℕ) → each_row rs ≡ true → is_among kno
 named_none [] m t h = refl
 named_none (r ∷ rs) m t h = rw (row_otherwise r rs m t h) (named_none rs m (rows_after r rs t) h)
 
+option_same : (o p : Option ℕ) → option_eq eqb o p ≡ true → o ≡ p
+option_same None None h = refl
+option_same None (Some b) h = absurd (false≢true h)
+option_same (Some a) None h = absurd (false≢true h)
+option_same (Some a) (Some b) h = ap Some (eqb-true a b h)
+
 -- The computed tests: the opcodes of the 56, in each shape; that they are mnemonics; and that there is no other.
 
+-- the opcode that a row has in a shape, where there is a row
+abbrev opcode_from : Option ℕ → Shape → Option ℕ
+opcode_from o s = option_and_then (λ row. opcode_in row s) o
+
 abbrev agrees : ℕ → Shape → Bool
-agrees m s = eqb (opcode_in (row_of m) s) (opcode_of m s)
+agrees m s = option_eq eqb (opcode_from (row_of m) s) (opcode_of m s)
 
 opcodes_agree : each_name known (λ m. each_shape (agrees m)) ≡ true
 unfolding known opcode_of
 opcodes_agree = refl
 
 abbrev is_named : ℕ → Bool
-is_named m = is_mnemonic m && not (eqb (row_of m) 0)
+is_named m = is_mnemonic m && is_some (row_of m)
 
 names_agree : each_name known is_named ≡ true
 unfolding known is_mnemonic
 names_agree = refl
 
--- no shape is in the row 0
-none_in : (s : Shape) → opcode_in 0 s ≡ 256
-none_in s = eqb-true _ 256 (at_shape (λ r. eqb (opcode_in 0 r) 256) refl s)
-
 no_other : each_row rows ≡ true
 unfolding known
 no_other = refl
 
-pub opcode_same : (m : ℕ) (s : Shape) → opcode_in (row_of m) s ≡ opcode_of m s
+opcode_same : (m : ℕ) (s : Shape) → opcode_from (row_of m) s ≡ opcode_of m s
 unfolding opcode_of
 opcode_same m s = go (is_among known m) refl
   where
-    go : (b : Bool) → is_among known m ≡ b → opcode_in (row_of m) s ≡ opcode_of m s
-    go true e = eqb-true _ _ (at_shape (agrees m) (at_name known (λ n. each_shape (agrees n)) opcodes_agree m e) s)
-    go false e = rw (row_none known m e, opcode_none rows m (numbered s) no_other e) (none_in s)
+    go : (b : Bool) → is_among known m ≡ b → opcode_from (row_of m) s ≡ opcode_of m s
+    go true e = option_same _ _ (at_shape (agrees m) (at_name known (λ n. each_shape (agrees n)) opcodes_agree m e) s)
+    go false e = rw (row_none known m e, opcode_none rows m (numbered s) no_other e)
 
-pub mnemonic_same : (m : ℕ) → is_mnemonic m ≡ not (eqb (row_of m) 0)
+-- the same, by what the row of a name is found to be
+pub opcode_there : (m row : ℕ) (s : Shape) → Some row ≡ row_of m → opcode_of m s ≡ opcode_in row s
+opcode_there m row s e = sym (opcode_same m s) ∙ ap (λ (o : Option ℕ). opcode_from o s) (sym e)
+
+pub opcode_missing : (m : ℕ) (s : Shape) → None ≡ row_of m → opcode_of m s ≡ None
+opcode_missing m s e = sym (opcode_same m s) ∙ ap (λ (o : Option ℕ). opcode_from o s) (sym e)
+
+pub mnemonic_same : (m : ℕ) → is_mnemonic m ≡ is_some (row_of m)
 unfolding is_mnemonic
 mnemonic_same m = go (is_among known m) refl
   where
-    go : (b : Bool) → is_among known m ≡ b → is_mnemonic m ≡ not (eqb (row_of m) 0)
+    go : (b : Bool) → is_among known m ≡ b → is_mnemonic m ≡ is_some (row_of m)
     go true e =
         let t = at_name known is_named names_agree m e in
         and_left (is_mnemonic m) _ t ∙ sym (and_right (is_mnemonic m) _ t)

@@ -1,6 +1,6 @@
 -- The 56 mnemonics, each with its row: from bit 8 on the set of its shapes, a bit for each by its number; below that a base, of which all
 -- its opcodes are offsets by the shape. That they say what the rows of the rules say is one computed test: proofs/Laws.antt.
-use Rattle.std.specs.Prelude.{ℕ, ◌+◌, ◌-◌, ◌*◌, ◌/◌, ◌%◌, List, [], ◌∷◌, eqb}
+use Rattle.std.specs.Prelude.{ℕ, ◌+◌, ◌-◌, ◌*◌, ◌/◌, ◌%◌, List, [], ◌∷◌, Option, Some, None, eqb}
 use Rattle.rules.specs.Basics.{when◌then◌else◌}
 use Rattle.assembly_rules.specs.declared.Shape.{Shape}
 use Rattle.assembly_rules.specs.declared.Shape.TheVariants as shape
@@ -32,20 +32,20 @@ known =
     name "TSX" has 0x1BA ∷ name "TXA" has 0x18A ∷ name "TXS" has 0x19A ∷ name "TYA" has 0x198 ∷
     []
 
-abbrev pub row_among : List Known → ℕ → ℕ
-row_among [] m = 0
-row_among (k ∷ ks) m = when eqb m k.named then k.row else row_among ks m
+abbrev pub row_among : List Known → ℕ → Option ℕ
+row_among [] m = None
+row_among (k ∷ ks) m = when eqb m k.named then Some k.row else row_among ks m
 
--- 0 where the name is no mnemonic
-abbrev pub row_of : ℕ → ℕ
+-- where the name is a mnemonic
+abbrev pub row_of : ℕ → Option ℕ
 row_of m = row_among known m
 
--- the opcode at an offset, where the row's set has the shape of this weight; else 256
-abbrev pub chosen : ℕ → ℕ → ℕ → ℕ
-chosen row weight offset = when eqb (row / weight % 2) 1 then (row % 256 + offset) % 256 else 256
+-- the opcode at an offset, where the row's set has the shape of this weight
+abbrev pub chosen : ℕ → ℕ → ℕ → Option ℕ
+chosen row weight offset = when eqb (row / weight % 2) 1 then Some ((row % 256 + offset) % 256) else None
 
 -- # and a,Y are elsewhere in ORA's group, whose opcodes are odd
-abbrev pub opcode_in : ℕ → Shape → ℕ
+abbrev pub opcode_in : ℕ → Shape → Option ℕ
 opcode_in row shape.Implied = chosen row 0x100 0x00
 opcode_in row shape.Accumulator = chosen row 0x200 0x08
 opcode_in row shape.Immediate = chosen row 0x400 (8 * (row % 2))

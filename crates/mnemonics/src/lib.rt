@@ -8,12 +8,12 @@ ghost use Rattle.mnemonics.specs.Rows.{row_of, chosen, opcode_in};
 
 use assembly_rules::Shape;
 
-// A mnemonic's row: from bit 8 on the set of its shapes, below that what all its opcodes are counted from. 0 where the name is no mnemonic.
+// A mnemonic's row: from bit 8 on the set of its shapes, below that what all its opcodes are counted from.
 #[tactic(auto, unfolding(crate::specs::Rows::known))]
-fn row_of(name: u32) -> u32
+fn row_of(name: u32) -> Option<u32>
     ensures { result ≡ row_of name }
 {
-    match name {
+    Some(match name {
         60096 => 0xEDC61, // ADC
         60457 => 0xEDC21, // AND
         60645 => 0x61A02, // ASL
@@ -70,23 +70,20 @@ fn row_of(name: u32) -> u32
         85438 => 0x18A, // TXA
         85456 => 0x19A, // TXS
         85474 => 0x198, // TYA
-        _ => 0,
-    }
+        _ => return None,
+    })
 }
 
-// The opcode at an offset, where the row's set has the shape of this weight; else 256.
-fn chosen(row: u32, weight: u32, offset: u32) -> u16
+// The opcode at an offset, where the row's set has the shape of this weight.
+fn chosen(row: u32, weight: u32, offset: u32) -> Option<u8>
     requires { (0 < weight) × (offset < 256) }
     ensures { result ≡ chosen row weight offset }
 {
-    if row / weight % 2 == 1 {
-        return ((row % 256 + offset) % 256) as u16;
-    }
-    256
+    (row / weight % 2 == 1).then_some(((row % 256 + offset) % 256) as u8)
 }
 
-// The opcode that a row has in a shape; 256 where it has none. # and a,Y are elsewhere in ORA's group, whose opcodes are odd.
-fn opcode_in(row: u32, shape: Shape) -> u16
+// The opcode that a row has in a shape, if any. # and a,Y are elsewhere in ORA's group, whose opcodes are odd.
+fn opcode_in(row: u32, shape: Shape) -> Option<u8>
     ensures { result ≡ opcode_in row shape }
 {
     let odd = row % 2;
@@ -107,15 +104,17 @@ fn opcode_in(row: u32, shape: Shape) -> u16
     }
 }
 
-// The opcode of this name and shape; 256 where there is none.
-pub fn opcode_of(name: u32, shape: Shape) -> u16
+// The opcode of this name and shape, if there is one.
+#[tactic(auto, using(crate::proofs::Laws::opcode_there, crate::proofs::Laws::opcode_missing))]
+pub fn opcode_of(name: u32, shape: Shape) -> Option<u8>
     ensures { result ≡ opcode_of name shape }
 {
-    opcode_in(row_of(name), shape)
+    opcode_in(row_of(name)?, shape)
 }
 
+#[tactic(auto, using(crate::proofs::Laws::mnemonic_same))]
 pub fn is_mnemonic(name: u32) -> bool
     ensures { result ≡ is_mnemonic name }
 {
-    row_of(name) != 0
+    row_of(name).is_some()
 }

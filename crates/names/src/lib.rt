@@ -113,8 +113,7 @@ pub fn name_of(i: Instruction) -> u32
         Instruction::Implied(o) => internal(o),
         Instruction::AtStack(o) => stacking(o),
         Instruction::Branch(t, _) => condition(t),
-        Instruction::Jump(_, _) => 72097,
-        Instruction::JumpIndirect(_, _) => 72097,
+        Instruction::Jump(_, _) | Instruction::JumpIndirect(_, _) => 72097,
         Instruction::Jsr(_) => 72315,
         Instruction::Brk => 61904,
         Instruction::Txs => 85456,
@@ -131,12 +130,11 @@ fn mode_shape(m: Mode) -> Shape
         Mode::Zero(_) => Shape::Zero,
         Mode::Immediate(_) => Shape::Immediate,
         Mode::Absolute(_, _) => Shape::Absolute,
-        Mode::IndirectY(_) => Shape::IndirectY,
+        Mode::IndirectY(_) | Mode::IndirectBankY(_) => Shape::IndirectY,
         Mode::ZeroX(_) => Shape::ZeroX,
         Mode::AbsoluteY(_, _) => Shape::AbsoluteY,
         Mode::AbsoluteX(_, _) => Shape::AbsoluteX,
         Mode::ZeroY(_) => Shape::ZeroY,
-        Mode::IndirectBankY(_) => Shape::IndirectY,
     }
 }
 
@@ -144,19 +142,17 @@ pub fn shape_of(i: Instruction) -> Shape
     ensures { result ≡ shape_of i }
 {
     match i {
-        Instruction::Read(_, m) => mode_shape(m),
-        Instruction::Store(_, m) => mode_shape(m),
-        Instruction::Change(_, m) => mode_shape(m),
+        Instruction::Read(_, m) | Instruction::Store(_, m) | Instruction::Change(_, m) =>
+            mode_shape(m),
         Instruction::Accumulator(_) => Shape::Accumulator,
-        Instruction::Implied(_) => Shape::Implied,
-        Instruction::AtStack(_) => Shape::Implied,
         Instruction::Branch(_, _) => Shape::Relative,
-        Instruction::Jump(_, _) => Shape::Absolute,
+        Instruction::Jump(_, _) | Instruction::Jsr(_) => Shape::Absolute,
         Instruction::JumpIndirect(_, _) => Shape::Indirect,
-        Instruction::Jsr(_) => Shape::Absolute,
-        Instruction::Brk => Shape::Implied,
-        Instruction::Txs => Shape::Implied,
-        Instruction::Cli => Shape::Implied,
-        Instruction::Undefined => Shape::Implied,
+        Instruction::Implied(_)
+        | Instruction::AtStack(_)
+        | Instruction::Brk
+        | Instruction::Txs
+        | Instruction::Cli
+        | Instruction::Undefined => Shape::Implied,
     }
 }

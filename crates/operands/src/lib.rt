@@ -2,13 +2,16 @@
 
 #![tactic(auto)]
 
-ghost use Rattle.std.specs.Prelude.{◌≡◌, ◌<◌, ◌≤◌, length, drop, ◌==◌};
+ghost use Rattle.std.specs.Prelude.{◌≡◌, ◌≤◌, length, drop};
 ghost use Rattle.assembly_rules.specs.Characters.{place, run, is_space, skip, next};
 ghost use Rattle.assembly_rules.specs.Sums.{is_sign, total_of, closed, number, term, sum_by};
-ghost use Rattle.assembly_rules.specs.Operands.{lastly, indexed, plain, inside_x, behind, pointed, immediate, operand};
-ghost use Rattle.operands.specs.Places.{Ran, Ahead, found, Inside, Finds, joined_to};
+ghost use Rattle.assembly_rules.specs.Operands.{lastly, indexed, plain, inside_x, behind, pointed, operand};
+ghost use Rattle.operands.specs.Places.{Ran, Ahead, Finds, read_at};
 
 use assembly_rules::Operand;
+
+// "at most 16 deep"
+const DEEPEST: u8 = 16;
 
 // So many characters more could have been read; the next one is at a place.
 #[derive(Clone, Copy)]
@@ -18,95 +21,69 @@ pub struct Word {
     pub at: usize,
 }
 
-// A character, or 256 for the end, and the place behind it.
+// A character, where the text has not ended, and the place behind it.
 #[derive(Clone, Copy)]
 struct Character {
-    character: u16,
+    character: Option<u8>,
     at: usize,
 }
 
 // A value, whether it is written with four digits alone, and the place behind it.
 #[derive(Clone, Copy)]
-pub enum Found {
-    Value(u16, bool, usize),
-    Nowhere,
+pub struct Found {
+    pub value: u16,
+    pub four: bool,
+    pub at: usize,
 }
 
-fn wide(c: u8) -> u16
-    ensures { result ≡ c }
-{
-    c as u16
-}
-
-fn place(c: u16) -> u8
+fn place(c: u8) -> u8
     ensures { result ≡ place c }
 {
-    if c < 48 {
-        return 36;
+    match c {
+        b'0'..=b'9' => c - b'0',
+        b'A'..=b'Z' => c - b'A' + 10,
+        b'a'..=b'z' => c - b'a' + 10,
+        _ => 36,
     }
-    if c < 58 {
-        return (c - 48) as u8;
-    }
-    if c < 65 {
-        return 36;
-    }
-    if c < 91 {
-        return (c - 55) as u8;
-    }
-    if c < 97 {
-        return 36;
-    }
-    if c < 123 {
-        return (c - 87) as u8;
-    }
-    36
 }
 
 // At most four characters, as a number.
+#[tactic(auto, using(crate::proofs::Laws::runs))]
 fn run(s: &[u8], at: usize, base: u8, n: u8) -> Word
     requires { (at ≤ length s.now) × (base ≤ 36) × (n ≤ 1) }
     ensures { Ran (run base 4 n (drop at s.now)) s.now result }
 {
-    let mut value = n as u32;
-    let mut left = 4;
-    let mut p = at;
-    while 0 < left {
-        if s.len() <= p {
-            return Word { value, left, at: p };
+    let mut word = Word {
+        value: n as u32,
+        left: 4,
+        at,
+    };
+    for &c in &s[at..] {
+        let digit = place(c);
+        if word.left == 0 || base <= digit {
+            return word;
         }
-        let digit = place(wide(s[p]));
-        if base <= digit {
-            return Word { value, left, at: p };
-        }
-        value = value * (base as u32) + (digit as u32);
-        left -= 1;
-        p += 1;
+        word.value = word.value * (base as u32) + (digit as u32);
+        word.left -= 1;
+        word.at += 1;
     }
-    Word { value, left, at: p }
+    word
 }
 
 fn is_space(c: u8) -> bool
     ensures { result ≡ is_space c }
 {
-    if c == b' ' {
-        return true;
-    }
-    c == b'\t'
+    matches!(c, b' ' | b'\t')
 }
 
 fn skip(s: &[u8], at: usize) -> usize
     requires { at ≤ length s.now }
     ensures { (skip (drop at s.now) ≡ drop result s.now) × (result ≤ length s.now) }
 {
-    let mut p = at;
-    while p < s.len() {
-        if is_space(s[p]) {
-            p += 1;
-        } else {
-            return p;
-        }
+    match s[at..].iter().position(|&c| !is_space(c)) {
+        Some(k) => at + k,
+        None => s.len(),
     }
-    p
 }
 
 fn next(s: &[u8], at: usize) -> Character
@@ -114,15 +91,15 @@ fn next(s: &[u8], at: usize) -> Character
     ensures { Ahead (next (drop at s.now)) s.now result }
 {
     let p = skip(s, at);
-    if p < s.len() {
-        return Character {
-            character: wide(s[p]),
+    match s.get(p) {
+        Some(&c) => Character {
+            character: Some(c),
             at: p + 1,
-        };
-    }
-    Character {
-        character: 256,
-        at: p,
+        },
+        None => Character {
+            character: None,
+            at: p,
+        },
     }
 }
 
@@ -135,253 +112,194 @@ pub fn name(s: &[u8]) -> Word
 }
 
 // "A number is $ and one to four digits": the digits.
-pub fn number(s: &[u8], at: usize) -> Found
+pub fn number(s: &[u8], at: usize) -> Option<Found>
     requires { at ≤ length s.now }
     ensures { Finds (number (drop at s.now)) s.now result }
 {
     let r = run(s, at, 16, 0);
-    let left = r.left;
-    if left == 4 {
-        return Found::Nowhere;
+    if r.left == 4 {
+        return None;
     }
-    Found::Value(r.value as u16, left == 0, r.at)
+    Some(Found {
+        value: r.value as u16,
+        four: r.left == 0,
+        at: r.at,
+    })
 }
 
 // A bracket is closed behind its sum.
-fn closed(s: &[u8], f: Found) -> Found
-    requires { Inside (length s.now) f }
-    ensures { Finds (closed (found s.now f)) s.now result }
+fn closed(s: &[u8], f: Found) -> Option<Found>
+    requires { f.at ≤ length s.now }
+    ensures { Finds (closed (read_at s.now f)) s.now result }
 {
-    match f {
-        Found::Value(v, _four, at) => {
-            let n = next(s, at);
-            if n.character == 93 {
-                return Found::Value(v, false, n.at);
-            }
-            Found::Nowhere
-        }
-        Found::Nowhere => Found::Nowhere,
+    let n = next(s, f.at);
+    match n.character {
+        Some(b']') => Some(Found {
+            value: f.value,
+            four: false,
+            at: n.at,
+        }),
+        _ => None,
     }
 }
 
-fn is_sign(c: u16) -> bool
+fn is_sign(c: u8) -> bool
     ensures { result ≡ is_sign c }
 {
-    if c == 43 {
-        return true;
-    }
-    c == 45
+    matches!(c, b'+' | b'-')
 }
 
 // "values are modulo 65,536"
-fn total(v: u16, sign: u16, w: u16) -> u16
+fn total(v: u16, sign: u8, w: u16) -> u16
     ensures { result ≡ total_of v sign w }
 {
-    if sign == 45 {
-        return std::num::wrapping_sub_u16(v, w);
-    }
-    std::num::wrapping_add_u16(v, w)
-}
-
-// A value with a term behind its sign.
-fn joined(v: u16, sign: u16, f: Found) -> Found
-    ensures { result ≡ joined_to v sign f }
-{
-    match f {
-        Found::Value(w, _four, at) => Found::Value(total(v, sign, w), false, at),
-        Found::Nowhere => Found::Nowhere,
+    if sign == b'-' {
+        v.wrapping_sub(w)
+    } else {
+        v.wrapping_add(w)
     }
 }
 
 // "a sum is made of terms", no more of them than characters
 #[cycle(sum_term)]
-fn sum(s: &[u8], at: usize, depth: u8) -> Found
+#[tactic(auto, using(crate::proofs::Summed::going_on))]
+fn sum(s: &[u8], at: usize, depth: u8) -> Option<Found>
     requires { at ≤ length s.now }
     ensures { Finds (sum_by (term depth) (drop at s.now)) s.now result }
 {
-    let mut f = term(s, at, depth);
-    let mut k = s.len() - at;
-    while 0 < k {
-        match f {
-            Found::Value(v, four, p) => {
-                let n = next(s, p);
-                let sign = n.character;
-                let behind = n.at;
-                if is_sign(sign) {
-                    let t = term(s, behind, depth);
-                    f = joined(v, sign, t);
-                } else {
-                    return Found::Value(v, four, p);
-                }
+    let mut f = term(s, at, depth)?;
+    for _k in at..s.len() {
+        let n = next(s, f.at);
+        match n.character {
+            Some(sign) if is_sign(sign) => {
+                let t = term(s, n.at, depth)?;
+                f = Found {
+                    value: total(f.value, sign, t.value),
+                    four: false,
+                    at: t.at,
+                };
             }
-            Found::Nowhere => {
-                return Found::Nowhere;
-            }
+            _ => return Some(f),
         }
-        k -= 1;
     }
-    f
+    Some(f)
 }
 
 // "and a bracketed term is again a sum"
 #[cycle(sum_term)]
-fn term(s: &[u8], at: usize, depth: u8) -> Found
+#[tactic(auto, using(crate::proofs::Summed::term_when))]
+fn term(s: &[u8], at: usize, depth: u8) -> Option<Found>
     requires { at ≤ length s.now }
     ensures { Finds (term depth (drop at s.now)) s.now result }
 {
     let n = next(s, at);
-    let c = n.character;
-    let p = n.at;
-    if c == 36 {
-        return number(s, p);
+    match n.character {
+        Some(b'$') => number(s, n.at),
+        Some(b'[') => closed(s, sum(s, n.at, depth.checked_sub(1)?)?),
+        _ => None,
     }
-    if c == 91 {
-        if depth == 0 {
-            return Found::Nowhere;
-        }
-        let f = sum(s, p, depth - 1);
-        return closed(s, f);
-    }
-    Found::Nowhere
-}
-
-// "Letters may be small or large"
-fn is_letter(c: u16, letter: u8) -> bool
-    ensures { result ≡ (place c == letter) }
-{
-    place(c) == letter
 }
 
 // The operand, where nothing follows it.
-fn lastly(s: &[u8], at: usize, o: Operand) -> Operand
+fn lastly(s: &[u8], at: usize, o: Operand) -> Option<Operand>
     requires { at ≤ length s.now }
     ensures { result ≡ lastly (drop at s.now) o }
 {
-    let n = next(s, at);
-    if n.character == 256 {
-        return o;
+    match next(s, at).character {
+        None => Some(o),
+        Some(_) => None,
     }
-    Operand::NotOne
 }
 
-// Behind a sum and a comma.
-fn indexed(s: &[u8], at: usize, v: u16, four: bool) -> Operand
+// Behind a sum and a comma. "Letters may be small or large"
+fn indexed(s: &[u8], at: usize, v: u16, four: bool) -> Option<Operand>
     requires { at ≤ length s.now }
     ensures { result ≡ indexed v four (next (drop at s.now)) }
 {
     let n = next(s, at);
-    if is_letter(n.character, 33) {
-        return lastly(s, n.at, Operand::AddressX(v, four));
+    match n.character {
+        Some(b'X' | b'x') => lastly(s, n.at, Operand::AddressX(v, four)),
+        Some(b'Y' | b'y') => lastly(s, n.at, Operand::AddressY(v, four)),
+        _ => None,
     }
-    if is_letter(n.character, 34) {
-        return lastly(s, n.at, Operand::AddressY(v, four));
-    }
-    Operand::NotOne
 }
 
-fn plain(s: &[u8], f: Found) -> Operand
-    requires { Inside (length s.now) f }
-    ensures { result ≡ plain (found s.now f) }
+fn plain(s: &[u8], f: Found) -> Option<Operand>
+    requires { f.at ≤ length s.now }
+    ensures { result ≡ plain (read_at s.now f) }
 {
-    match f {
-        Found::Value(v, four, at) => {
-            let n = next(s, at);
-            let c = n.character;
-            if c == 256 {
-                return Operand::Address(v, four);
-            }
-            if c == 44 {
-                return indexed(s, n.at, v, four);
-            }
-            Operand::NotOne
-        }
-        Found::Nowhere => Operand::NotOne,
+    let n = next(s, f.at);
+    match n.character {
+        None => Some(Operand::Address(f.value, f.four)),
+        Some(b',') => indexed(s, n.at, f.value, f.four),
+        _ => None,
     }
 }
 
 // Behind (sum,
-fn inside_x(s: &[u8], at: usize, v: u16) -> Operand
+fn inside_x(s: &[u8], at: usize, v: u16) -> Option<Operand>
     requires { at ≤ length s.now }
     ensures { result ≡ inside_x v (next (drop at s.now)) }
 {
     let n = next(s, at);
-    if is_letter(n.character, 33) {
-        let p = next(s, n.at);
-        if p.character == 41 {
-            return lastly(s, p.at, Operand::IndirectX(v));
+    match n.character {
+        Some(b'X' | b'x') => {
+            let p = next(s, n.at);
+            match p.character {
+                Some(b')') => lastly(s, p.at, Operand::IndirectX(v)),
+                _ => None,
+            }
         }
+        _ => None,
     }
-    Operand::NotOne
 }
 
 // Behind (sum)
-fn behind(s: &[u8], at: usize, v: u16) -> Operand
+fn behind(s: &[u8], at: usize, v: u16) -> Option<Operand>
     requires { at ≤ length s.now }
     ensures { result ≡ behind v (next (drop at s.now)) }
 {
     let n = next(s, at);
-    let c = n.character;
-    if c == 256 {
-        return Operand::Indirect(v);
-    }
-    if c == 44 {
-        let p = next(s, n.at);
-        if is_letter(p.character, 34) {
-            return lastly(s, p.at, Operand::IndirectY(v));
-        }
-    }
-    Operand::NotOne
-}
-
-fn pointed(s: &[u8], f: Found) -> Operand
-    requires { Inside (length s.now) f }
-    ensures { result ≡ pointed (found s.now f) }
-{
-    match f {
-        Found::Value(v, _four, at) => {
-            let n = next(s, at);
-            let c = n.character;
-            if c == 44 {
-                return inside_x(s, n.at, v);
+    match n.character {
+        None => Some(Operand::Indirect(v)),
+        Some(b',') => {
+            let p = next(s, n.at);
+            match p.character {
+                Some(b'Y' | b'y') => lastly(s, p.at, Operand::IndirectY(v)),
+                _ => None,
             }
-            if c == 41 {
-                return behind(s, n.at, v);
-            }
-            Operand::NotOne
         }
-        Found::Nowhere => Operand::NotOne,
+        _ => None,
     }
 }
 
-fn immediate(s: &[u8], f: Found) -> Operand
-    requires { Inside (length s.now) f }
-    ensures { result ≡ immediate (found s.now f) }
+fn pointed(s: &[u8], f: Found) -> Option<Operand>
+    requires { f.at ≤ length s.now }
+    ensures { result ≡ pointed (read_at s.now f) }
 {
-    match f {
-        Found::Value(v, _four, at) => lastly(s, at, Operand::Immediate(v)),
-        Found::Nowhere => Operand::NotOne,
+    let n = next(s, f.at);
+    match n.character {
+        Some(b',') => inside_x(s, n.at, f.value),
+        Some(b')') => behind(s, n.at, f.value),
+        _ => None,
     }
 }
 
 // What stands behind a name.
-pub fn operand(s: &[u8], at: usize) -> Operand
+#[tactic(auto, unfolding(assembly_rules::specs::Operands::operand))]
+pub fn operand(s: &[u8], at: usize) -> Option<Operand>
     requires { at ≤ length s.now }
     ensures { result ≡ operand (drop at s.now) }
 {
     let n = next(s, at);
-    let c = n.character;
-    let p = n.at;
-    if c == 256 {
-        return Operand::Nothing;
+    match n.character {
+        None => Some(Operand::Nothing),
+        Some(b'#') => {
+            let f = sum(s, n.at, DEEPEST)?;
+            lastly(s, f.at, Operand::Immediate(f.value))
+        }
+        Some(b'(') => pointed(s, sum(s, n.at, DEEPEST)?),
+        Some(b'A' | b'a') => lastly(s, n.at, Operand::Accumulator),
+        _ => plain(s, sum(s, at, DEEPEST)?),
     }
-    if c == 35 {
-        return immediate(s, sum(s, p, 16));
-    }
-    if c == 40 {
-        return pointed(s, sum(s, p, 16));
-    }
-    if is_letter(c, 10) {
-        return lastly(s, p, Operand::Accumulator);
-    }
-    plain(s, sum(s, at, 16))
 }

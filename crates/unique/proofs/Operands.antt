@@ -4,11 +4,11 @@ use native.Mathlib.Omega.{arith}
 use mathlib.Core.Path.{◌≡◌, refl, sym, ap, ◌∙◌}
 use mathlib.Core.List.{List}
 use lib.ListN.{length, drop, length-drop}
+use Rattle.std.specs.Prelude.{Option, Some, None}
 use Rattle.assembly_rules.specs.Characters.{Run}
 use Rattle.operands.specs.declared.Word.{Word}
 use Rattle.assembly_rules.specs.Sums.{Read}
 use Rattle.operands.specs.declared.Found.{Found}
-use Rattle.operands.specs.declared.Found.TheVariants.{Value, Nowhere}
 use Rattle.operands.specs.Places.{Ran, Finds}
 use Rattle.operands.proofs as its
 use Rattle.unique.proofs.General.{Unique, answer}
@@ -25,18 +25,17 @@ ran {s = s} {v = v} {w = w} p q j =
       at = place_once s v.at w.at p.within q.within (ap (λ (r : Run). r.rest) e) j;
     }
 
-found_once : (r : Read) (s : List ℕ) (f g : Found) → Finds r s f → Finds r s g → f ≡ g
-found_once r s (Value v four p) (Value w five q) x y =
+found_once : (r : Read) (s : List ℕ) (f g : Option Found) → Finds r s f → Finds r s g → f ≡ g
+found_once r s (Some f) (Some g) x y =
     let e = sym x.same ∙ y.same in
-    let value_same : v ≡ w = cc in
-    let four_same : four ≡ five = cc in
-    let rest-same : drop p s ≡ drop q s = cc in
-    rw (value_same, four_same, place_once s p q x.within y.within rest-same)
-found_once r s (Value v four p) Nowhere x y =
-    let e = sym x.same ∙ y.same in let z : ◌≡◌ {A = ℕ} 0 1 = cc in absurd (omega (arith, z))
-found_once r s Nowhere (Value w five q) x y =
-    let e = sym x.same ∙ y.same in let z : ◌≡◌ {A = ℕ} 0 1 = cc in absurd (omega (arith, z))
-found_once r s Nowhere Nowhere x y = refl
+    let value_same : f.value ≡ g.value = cc in
+    let four_same : f.four ≡ g.four = cc in
+    let rest-same : drop f.at s ≡ drop g.at s = cc in
+    let at-same = place_once s f.at g.at x.within y.within rest-same in
+    λ j. Some (record { value = value_same j; four = four_same j; at = at-same j })
+found_once r s (Some f) None x y = let e = sym x.same ∙ y.same in let z : ◌≡◌ {A = ℕ} 0 1 = cc in absurd (omega (arith, z))
+found_once r s None (Some g) x y = let e = sym x.same ∙ y.same in let z : ◌≡◌ {A = ℕ} 0 1 = cc in absurd (omega (arith, z))
+found_once r s None None x y = refl
 
 pub name : Unique its.name.Kinds.ps its.name.Kinds.r its.name.Reads.Post
 name κs a x y p q = answer refl (ran p q) refl

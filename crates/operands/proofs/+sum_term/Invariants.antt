@@ -1,4 +1,4 @@
-use Rattle.std.proofs.Common.{◌+◌, ◌*◌}
+use Rattle.std.proofs.Common.{◌+◌, ◌-◌, ◌*◌}
 use Rattle.operands.proofs.Summed.{Summing}
 use Rattle.operands.proofs.+sum_term.Given as goal
 
@@ -10,7 +10,4 @@ abbrev pub decreases-term : goal.decreases-term
 decreases-term l = 2 * l.depth
 
 abbrev pub invariant-sum-loop-k : goal.invariant-sum-loop-k
-invariant-sum-loop-k l = Summing l.s l.at l.depth l.f l.k
-
-abbrev pub decreases-sum-loop-k : goal.decreases-sum-loop-k
-decreases-sum-loop-k l = l.k
+invariant-sum-loop-k l = Summing l.s l.at l.depth l.f (l._k-end - l._k)
