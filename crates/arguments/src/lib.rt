@@ -24,7 +24,13 @@ pub fn start_of(argument: &[u8]) -> Option<u16>
     ensures { result ≡ start_of argument.now }
 {
     match operands::number(argument, 0) {
-        Some(Found { value, four: true, at }) if at == argument.len() => Some(value),
+        Some(
+            Found {
+                value,
+                four: true,
+                at,
+            },
+        ) if at == argument.len() => Some(value),
         _ => None,
     }
 }

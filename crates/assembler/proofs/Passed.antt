@@ -116,8 +116,8 @@ module _ (text : List ℕ) (start : ℕ) (buffer : List ℕ) (writing : Bool) wh
               p.kept ∙ (rw (w, same));
         }
 
-    module _ (line behind : List ℕ) (c : Cuts rest line behind) (l : Result Line Fault) (room : ℕ) (here : l ≡ line_of (sum16 start count) line)
-        (long : room ≡ length buffer) where
+    module _ (line behind : List ℕ) (c : Cuts rest line behind) (l : Result Line Fault) (room : ℕ)
+        (here : l ≡ line_of (sum16 start count) line) (long : room ≡ length buffer) where
       -- the lines behind the next
       abbrev later : List ℕ → Made
       later all = lines start (length buffer) (suc n) all (lines_of behind)

@@ -24,7 +24,13 @@ fn two_reads(state: &[u8; 16], w: Wiring, image: &[u8], list: &mut [u8; 56], pc:
 }
 
 // "IRQ, NMI: read PC twice, push PC high, low, P (bit 4 clear), read the vector (FFFE, FFFA), set I."
-pub fn interrupt(vector: u16, state: &mut [u8; 16], w: Wiring, image: &mut [u8], list: &mut [u8; 56])
+pub fn interrupt(
+    vector: u16,
+    state: &mut [u8; 16],
+    w: Wiring,
+    image: &mut [u8],
+    list: &mut [u8; 56],
+)
     requires { (vector < 65535) × (w.size ≤ length image.old) }
     ensures { (s : State) → Stands execution s state.old w →
         Does (interrupt vector s.cpu) 0 s image.old list.old 7 state.new image.new

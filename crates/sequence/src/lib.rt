@@ -14,7 +14,15 @@ use rules::Purpose;
 use wiring::Wiring;
 
 // "push PC high, low, P"
-pub fn push_three(state: &[u8; 16], w: Wiring, image: &mut [u8], list: &mut [u8; 56], pc: u16, s: u8, p: u8)
+pub fn push_three(
+    state: &[u8; 16],
+    w: Wiring,
+    image: &mut [u8],
+    list: &mut [u8; 56],
+    pc: u16,
+    s: u8,
+    p: u8,
+)
     requires { w.size ≤ length image.old }
     ensures { (t : State) → Stands execution t state.now w →
         Goes (push_three pc s p) 2 t.bus image.old list.old tt 5 t.bus

@@ -78,8 +78,9 @@ line_is a rest =
 counted : (a : ℕ) (rest : List ℕ) (n : ℕ) (s : Shape) → length (text_by a rest n s) + 1 ≡ count_by n s
 counted a rest n s = go (eqb n 0)
   where
-    go : (z : Bool) → length (when z then said "BYTE $" ++ hex (at rest 0) else letters_of n ++ operand_text a (at rest 1) (at rest 2) s) + 1
-        ≡ (when z then 9 else 4 + length (operand_text 0 0 0 s))
+    go : (z : Bool) →
+        length (when z then said "BYTE $" ++ hex (at rest 0) else letters_of n ++ operand_text a (at rest 1) (at rest 2) s) + 1 ≡
+        (when z then 9 else 4 + length (operand_text 0 0 0 s))
     go true = refl
     go false = omega (arith, operand_width a (at rest 1) (at rest 2) s)
 

@@ -90,7 +90,14 @@ fn set_s_pc(state: &mut [u8; 16], s: u8, pc: u16)
 }
 
 // Two bytes from S + 1 and S + 2, as an address.
-fn word_above(state: &[u8; 16], w: Wiring, image: &[u8], list: &mut [u8; 56], k: usize, s: u8) -> u16
+fn word_above(
+    state: &[u8; 16],
+    w: Wiring,
+    image: &[u8],
+    list: &mut [u8; 56],
+    k: usize,
+    s: u8,
+) -> u16
     requires { (k < 6) × (w.size ≤ length image.now) }
     ensures { (t : State) → Stands execution t state.now w →
         Goes (word_at Stack (stack (sum8 s 1)) (stack (sum8 s 2))) k t.bus image.now list.old result (k + 2) t.bus

@@ -79,7 +79,15 @@ pub fn write(
 }
 
 // One write cycle at the stack, where no part has a register.
-pub fn push(state: &[u8; 16], w: Wiring, image: &mut [u8], list: &mut [u8; 56], k: usize, s: u8, v: u8)
+pub fn push(
+    state: &[u8; 16],
+    w: Wiring,
+    image: &mut [u8],
+    list: &mut [u8; 56],
+    k: usize,
+    s: u8,
+    v: u8,
+)
     requires { (k < 7) × (w.size ≤ length image.old) }
     ensures { (t : State) (κ : Bank) → Stands κ t state.now w →
         Goes {A = Unit {0}} (write Stack κ (256 + s) v (done tt)) k t.bus image.old list.old tt (k + 1) t.bus
@@ -91,7 +99,15 @@ pub fn push(state: &[u8; 16], w: Wiring, image: &mut [u8], list: &mut [u8; 56], 
 }
 
 // "push PC high, low"
-pub fn push_pc(state: &[u8; 16], w: Wiring, image: &mut [u8], list: &mut [u8; 56], k: usize, pc: u16, s: u8)
+pub fn push_pc(
+    state: &[u8; 16],
+    w: Wiring,
+    image: &mut [u8],
+    list: &mut [u8; 56],
+    k: usize,
+    pc: u16,
+    s: u8,
+)
     requires { (k < 6) × (w.size ≤ length image.old) }
     ensures { (t : State) → Stands execution t state.now w →
         Goes (push_pc pc s) k t.bus image.old list.old tt (k + 2) t.bus image.new
