@@ -1,4 +1,4 @@
-use mathlib.Core.Path.{◌≡◌, sym, refl, ◌∙◌}
+use mathlib.Core.Path.{◌≡◌, sym, ◌∙◌}
 use borrow.Author.Tests.{ne_eqb}
 use Rattle.rules.specs.Bus.{selected}
 use Rattle.rules.specs.Record.{record_of}
