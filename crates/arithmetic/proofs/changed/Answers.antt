@@ -1,4 +1,4 @@
-use Rattle.arithmetic.proofs.Laws.{doubled, lowered}
+use Rattle.arithmetic.proofs.Laws.{doubled}
 use Rattle.rules.specs.Arithmetic.{changed}
 use Rattle.arithmetic.proofs.changed.Goals as goal
 
