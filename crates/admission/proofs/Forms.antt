@@ -1,5 +1,6 @@
 -- The forms of the records: where each is formed, the addresses ascend.
-use Rattle.std.proofs.Common.{◌≡◌, ℕ, zero, suc, ◌+◌, ◌*◌, ◌<◌, ◌≤◌, Bool, true, false, ◌&&◌, eqb, leb, List, refl, ◌∙◌, arith, ltb-true, Err}
+use Rattle.std.proofs.Common.{◌≡◌, ℕ, zero, suc, ◌+◌, ◌*◌, ◌<◌, ◌≤◌, Bool, true, false, ◌&&◌, eqb, leb, List, Err, refl, ◌∙◌}
+use Rattle.std.proofs.Common.{arith, ltb-true}
 use native.Mathlib.Nat.{sub-zero}
 use native.Mathlib.Decide.{ℕ_discrete}
 use Rattle.rules.specs.declared.Refusal.TheVariants.{MapRecord}

@@ -5,7 +5,7 @@
 mod instruction_rules;
 mod marks;
 
-ghost use Rattle.std.specs.Prelude.{◌≡◌, ◌<◌, length, Ok, Err};
+ghost use Rattle.std.specs.Prelude.{◌≡◌, ◌<◌, Ok, Err};
 ghost use Rattle.rules.specs.Basics.{when◌then◌else◌, at};
 ghost use Rattle.rules.specs.Answers.{tested};
 ghost use Rattle.rules.specs.Bus.{images};
@@ -21,10 +21,8 @@ use rules::Refusal;
 fn is_reached(map: &Map, s: Successor, likely: usize) -> bool
     ensures { result ≡ reached map.now s }
 {
-    match map.need_at(s.address, s.kind, s.height, likely) {
-        Some(need) => need as u32 + s.more as u32 <= s.limit as u32,
-        None => false,
-    }
+    map.need_at(s.address, s.kind, s.height, likely)
+        .is_some_and(|need| need as u32 + s.more as u32 <= s.limit as u32)
 }
 
 fn peek(image: &[u8; 65536], p: u16) -> u8

@@ -51,12 +51,7 @@ fn is_formed(records: &[[u8; 8]], i: usize) -> bool
 pub(crate) fn first_malformed(records: &[[u8; 8]]) -> Option<usize>
     ensures { Formed (bytes_of records.now) result }
 {
-    for i in 0..records.len() {
-        if !is_formed(records, i) {
-            return Some(i);
-        }
-    }
-    None
+    (0..records.len()).find(|&i| !is_formed(records, i))
 }
 
 // A map of at most 65,536 bytes whose records ascend. Clauses see its bytes.

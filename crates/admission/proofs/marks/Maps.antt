@@ -1,6 +1,6 @@
 -- What the searches of a map say of it.
-use Rattle.std.proofs.Common.{◌≡◌, ℕ, zero, suc, ◌-◌, ◌<◌, ◌≤◌, Bool, true, false, ◌&&◌, ◌||◌, ltb, List, [], length, get_or, sym, ap, refl, ◌∙◌, arith}
-use Rattle.std.proofs.Common.{ne_eqb, ltb-true, ltb-false}
+use Rattle.std.proofs.Common.{◌≡◌, ℕ, zero, suc, ◌-◌, ◌<◌, ◌≤◌, Bool, true, false, ◌&&◌, ◌||◌, ltb, List, [], length, get_or}
+use Rattle.std.proofs.Common.{sym, ap, refl, ◌∙◌, arith, ne_eqb, ltb-true, ltb-false}
 use native.Mathlib.Decide.{dec_le, ℕ_discrete}
 use Rattle.admission_rules.specs.Admission.{mark_at, marks_in, some, marked, is_mark, ascends}
 use Rattle.admission_rules.specs.declared.Mark.{Mark}
@@ -8,9 +8,6 @@ use Rattle.std.specs.List.Sorted.{IsPartitionedBy, IsPartitionPoint}
 use Rattle.std.proofs.lemmas.List.Sorted.{IsPartitionedBy-ltb, IsNonDecreasingBy-from_default}
 use Rattle.admission.specs.Maps.{bytes_of, mark_of, Ascending, Found}
 use Rattle.admission.proofs.Chunks.{marks_in-bytes_of, mark_at-bytes_of}
-
-pub ascends-first : (map : List ℕ) (i : ℕ) → i ≡ 0 → true ≡ ascends map i
-ascends-first map i e = rw e
 
 pub ascends-next : (map : List ℕ) (i : ℕ) → (i ≡ 0 → ⊥) → (m n : Mark) → m ≡ mark_at map (i - 1) → n ≡ mark_at map i →
     ltb m.address n.address ≡ ascends map i
