@@ -18,7 +18,7 @@ loop-rest-preserved c =
     let l = c.loop-rest in
     let some = some_left l.rest.now c.is_empty.ensures c.loop-rest-test.true in
     let put = rw c.count_with-count.ensures at c.put_line.ensures in
-    rw (take_rest, c.size_of-size.ensures, c.count_with-count.ensures)
+    rw (take_rest, c.size_with-size.ensures, c.count_with-count.ensures)
     (putting_more (text_of c.args.start c.args.bytes.now) c.args.text.now l.text l.rest.now l.a l.at l.invariant some c.find-found.ensures
     c.line_of-line.result _ c.line_of-line.ensures put)
 
