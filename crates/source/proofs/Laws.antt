@@ -16,7 +16,7 @@ use Rattle.assembly_rules.specs.declared.Fault.TheVariants.{NoRoom}
 use Rattle.assembly_rules.specs.Characters.{said}
 use Rattle.assembly_rules.specs.Mnemonics.{name_of, shape_of}
 use Rattle.assembly_rules.specs.Listing.{Listed, instruction_line, line_at, text_of, listing}
-use Rattle.assembly_rules.proofs.Listings.{operand_width, line_size, text_first, text_none, text_anywhere}
+use Rattle.assembly_rules.proofs.Listings.{operand_width, text_first, text_none, text_anywhere}
 use Rattle.characters.proofs.Laws.{sets_front, sets_more}
 use Rattle.std.proofs.lemmas.List.{nil_from_length}
 use mathlib.Core.List.{map}
@@ -76,15 +76,6 @@ some_left (c ∷ l) e f = omega arith
 
 -- What some bytes are listed as is one line and the lines behind it.
 module _ (rest : List ℕ) (some : 0 < length rest) {found : Option Found} (f : found ≡ find_in rest) where
-  size_within : (1 ≤ size_with found) × (size_with found ≤ length rest)
-  size_within = let w = line_size 0 rest some in rw (line_is 0 rest, ← f) at w
-
-  pub size_some : 1 ≤ size_with found
-  size_some = size_within.0
-
-  pub size_most : size_with found ≤ length rest
-  size_most = size_within.1
-
   abbrev line : ℕ → List ℕ
   line a = text_with a rest found ++ code "\n" ∷ []
 
@@ -113,16 +104,16 @@ pub record Putting (all t t' rest : List ℕ) (a p : ℕ) : Type 0 where
   pub whole : done ++ text_of a rest ≡ all
   pub text : t' ≡ sets t 0 done
 
-module _ (all t t' rest : List ℕ) (a p : ℕ) (k : Putting all t t' rest a p) where
+module _ {all t t' rest : List ℕ} {a p : ℕ} (k : Putting all t t' rest a p) where
   module _ (some : 0 < length rest) {found : Option Found} (f : found ≡ find_in rest) where
     pub putting_room : p + count_with found ≤ length all
     putting_room =
         omega (arith, k.size, ap length k.whole, length-append k.done (text_of a rest), longer rest some f a a)
 
-    pub putting_more : (l t'' : List ℕ) → Spells (text_with a rest found) (count_with found) l →
+    pub putting_more : {l t'' : List ℕ} → Spells (text_with a rest found) (count_with found) l →
         t'' ≡ sets t' p (take (count_with found) l) →
         Putting all t t'' (drop (size_with found) rest) (sum16 a (size_with found)) (p + count_with found)
-    putting_more l t'' e h =
+    putting_more e h =
         let x = line rest some f a in
         let z : 0 + length k.done ≡ length k.done = omega arith in
         let put = sym (sets_append k.done x t 0) in
@@ -139,30 +130,30 @@ module _ (all t t' rest : List ℕ) (a p : ℕ) (k : Putting all t t' rest a p) 
       k.text ∙ ap (sets t 0) (sym (append-nil k.done) ∙ ap (λ (n : List ℕ). k.done ++ n) (sym over) ∙ k.whole)
 
 -- What is answered.
-module _ (start : ℕ) (bytes t : List ℕ) (r : Result ℕ Fault) (m : r ≡ listing (length (text_of 0 bytes)) (length t)) where
+module _ (start : ℕ) (bytes t : List ℕ) {r : Result ℕ Fault} (m : r ≡ listing (length (text_of 0 bytes)) (length t)) where
   abbrev text : List ℕ
   text = text_of start bytes
 
   answered : r ≡ listing (length text) (length t)
   answered = m ∙ (rw (text_anywhere 0 start bytes))
 
-  pub fits : (count : ℕ) → r ≡ Ok count → length text ≤ length t
-  fits count e = go (leb (length text) (length t)) refl (sym e ∙ answered)
+  pub fits : {count : ℕ} → r ≡ Ok count → length text ≤ length t
+  fits {count = count} e = go (leb (length text) (length t)) refl (sym e ∙ answered)
     where
       go : (b : Bool) → leb (length text) (length t) ≡ b → Ok count ≡ (when b then Ok (length text) else Err NoRoom) →
           length text ≤ length t
       go true h g = leb-true (length text) (length t) h
       go false h g = cc
 
-  pub lists_all : (count : ℕ) (t' : List ℕ) → r ≡ Ok count → t' ≡ sets t 0 text → Lists text (Ok count) t t'
-  lists_all count t' e h =
+  pub lists_all : {count : ℕ} {t' : List ℕ} → r ≡ Ok count → t' ≡ sets t 0 text → Lists text (Ok count) t t'
+  lists_all e h =
       record {
         answer = sym e ∙ answered;
-        text = rw (le-leb (length text) (length t) (fits count e)) (h ∙ sets_front text t (fits count e));
+        text = rw (le-leb (length text) (length t) (fits e)) (h ∙ sets_front text t (fits e));
       }
 
-  pub lists_none : (f : Fault) → r ≡ Err f → Lists text (Err f) t t
-  lists_none f e = record { answer = sym e ∙ answered; text = go (leb (length text) (length t)) (sym e ∙ answered) }
+  pub lists_none : {f : Fault} → r ≡ Err f → Lists text (Err f) t t
+  lists_none {f = f} e = record { answer = sym e ∙ answered; text = go (leb (length text) (length t)) (sym e ∙ answered) }
     where
       go : (b : Bool) → Err f ≡ (when b then Ok (length text) else Err NoRoom) → t ≡ (when b then front text t else t)
       go true g = cc
