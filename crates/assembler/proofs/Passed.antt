@@ -83,11 +83,6 @@ shown_more : (writing : Bool) (before bytes buffer : List ℕ) (count : ℕ) →
 shown_more true before bytes buffer count e h = front_more before bytes buffer count e h
 shown_more false before bytes buffer count e h = refl
 
-shown_size : (writing : Bool) (before buffer : List ℕ) → length before ≤ length buffer →
-    length (shown writing before buffer) ≡ length buffer
-shown_size true before buffer h = front_size before buffer h
-shown_size false before buffer h = refl
-
 -- the lines before the rest have made these bytes
 pub record Passing (text : List ℕ) (start : ℕ) (buffer : List ℕ) (writing : Bool) (bytes rest : List ℕ) (n count : ℕ) : Type 0 where
   pub before : List ℕ
@@ -97,60 +92,57 @@ pub record Passing (text : List ℕ) (start : ℕ) (buffer : List ℕ) (writing 
   pub same : assembled start (length buffer) text ≡ lines start (length buffer) n before (lines_of rest)
   pub kept : bytes ≡ shown writing before buffer
 
-module _ (text : List ℕ) (start : ℕ) (buffer : List ℕ) (writing : Bool) where
-  module _ (bytes rest : List ℕ) (n count : ℕ) (p : Passing text start buffer writing bytes rest n count) where
-    pub pass_size : length bytes ≡ length buffer
-    pass_size = ap length p.kept ∙ shown_size writing p.before buffer (omega (arith, p.size, p.fits))
+module _ {text : List ℕ} {start : ℕ} {buffer : List ℕ} {writing : Bool} {bytes rest : List ℕ} {n count : ℕ}
+    (p : Passing text start buffer writing bytes rest n count) where
+  -- the text's end
+  pub pass_over : rest ≡ [] → Passes (assembled start (length buffer) text) writing (Ok count) buffer bytes
+  unfolding lines lines_of
+  pass_over h =
+      let m : assembled start (length buffer) text ≡ made p.before = p.same ∙ (rw h) in
+      record {
+        answered = rw m (ap Ok (sym p.size));
+        judged = λ w. p.kept ∙ (rw w);
+        written =
+            λ w all e.
+            let same : p.before ≡ all = cc in
+            p.kept ∙ (rw (w, same));
+      }
 
-    -- the text's end
-    pub pass_over : rest ≡ [] → Passes (assembled start (length buffer) text) writing (Ok count) buffer bytes
-    unfolding lines lines_of
-    pass_over h =
-        let m : assembled start (length buffer) text ≡ made p.before = p.same ∙ (rw h) in
+  module _ {line behind : List ℕ} (c : Cuts rest line behind) {l : Result Line Fault}
+      (here : l ≡ line_of (sum16 start count) line) {room : ℕ} (long : room ≡ length buffer) where
+    -- the lines behind the next
+    abbrev later : List ℕ → Made
+    later all = lines start (length buffer) (suc n) all (lines_of behind)
+
+    -- the next line, as it is judged
+    next : assembled start (length buffer) text ≡ judged (length buffer) n p.before later l
+    unfolding lines
+    next = p.same ∙ (rw c.same (rw (p.size, ← here)))
+
+    pub pass_stop : (bad : BadLine) → step_to room count l ≡ Err bad.fault → bad.line ≡ n →
+        Passes (assembled start (length buffer) text) writing (Err bad) buffer bytes
+    pass_stop bad h e =
+        let m = next ∙ judged_stop (length buffer) n count p.before later p.size bad.fault l (rw long at h) in
         record {
-          answered = rw m (ap Ok (sym p.size));
+          answered = rw (m, ← e);
           judged = λ w. p.kept ∙ (rw w);
-          written =
-              λ w all e.
-              let same : p.before ≡ all = cc in
-              p.kept ∙ (rw (w, same));
+          written = λ w all k. let z : wrong bad.fault n ≡ made all = sym m ∙ k in cc;
         }
 
-    module _ (line behind : List ℕ) (c : Cuts rest line behind) (l : Result Line Fault) (room : ℕ)
-        (here : l ≡ line_of (sum16 start count) line) (long : room ≡ length buffer) where
-      -- the lines behind the next
-      abbrev later : List ℕ → Made
-      later all = lines start (length buffer) (suc n) all (lines_of behind)
+    module _ {total : ℕ} (h : step_to room count l ≡ Ok total) where
+      goes : Goes (length buffer) n count total p.before (bytes_of l) later (judged (length buffer) n p.before later l)
+      goes = judged_go (length buffer) n count p.before _ p.size total l (rw long at h)
 
-      -- the next line, as it is judged
-      next : assembled start (length buffer) text ≡ judged (length buffer) n p.before later l
-      unfolding lines
-      next = p.same ∙ (rw c.same (rw (p.size, ← here)))
-
-      pub pass_stop : (bad : BadLine) → step_to room count l ≡ Err bad.fault → bad.line ≡ n →
-          Passes (assembled start (length buffer) text) writing (Err bad) buffer bytes
-      pass_stop bad h e =
-          let m = next ∙ judged_stop (length buffer) n count p.before later p.size bad.fault l (rw long at h) in
+      pub pass_more : {bytes' : List ℕ} → bytes' ≡ (when writing then sets bytes count (bytes_of l) else bytes) →
+          Passing text start buffer writing bytes' behind (n + 1) total
+      pass_more e =
+          let g = goes in
           record {
-            answered = rw (m, ← e);
-            judged = λ w. p.kept ∙ (rw w);
-            written = λ w all k. let z : wrong bad.fault n ≡ made all = sym m ∙ k in cc;
+            before = p.before ++ bytes_of l;
+            size = length-append p.before (bytes_of l) ∙ (rw p.size (sym g.size));
+            fits = g.fits;
+            few = omega (arith, p.few, c.shorter);
+            same = next ∙ g.same ∙ (rw (add-one n));
+            kept =
+                e ∙ (rw p.kept (shown_more writing p.before (bytes_of l) buffer count p.size (omega (arith, g.size, g.fits))));
           }
-
-      module _ (total : ℕ) (h : step_to room count l ≡ Ok total) where
-        goes : Goes (length buffer) n count total p.before (bytes_of l) later (judged (length buffer) n p.before later l)
-        goes = judged_go (length buffer) n count p.before _ p.size total l (rw long at h)
-
-        pub pass_more : (bytes' : List ℕ) → bytes' ≡ (when writing then sets bytes count (bytes_of l) else bytes) →
-            Passing text start buffer writing bytes' behind (n + 1) total
-        pass_more bytes' e =
-            let g = goes in
-            record {
-              before = p.before ++ bytes_of l;
-              size = length-append p.before (bytes_of l) ∙ (rw p.size (sym g.size));
-              fits = g.fits;
-              few = omega (arith, p.few, c.shorter);
-              same = next ∙ g.same ∙ (rw (add-one n));
-              kept =
-                  e ∙ (rw p.kept (shown_more writing p.before (bytes_of l) buffer count p.size (omega (arith, g.size, g.fits))));
-            }

@@ -8,11 +8,11 @@ ghost use Rattle.rules.specs.Basics.{when◌then◌else◌, at};
 ghost use Rattle.rules.specs.Text.{hex};
 ghost use Rattle.assembly_rules.specs.Characters.{said};
 ghost use Rattle.assembly_rules.specs.Listing.{letters_of, operand_text, text_of, listing};
-ghost use Rattle.source.specs.Lines.{size_by, count_by, whole_in, text_by, Spells, Finds, Lists};
+ghost use Rattle.source.specs.Lines.{size_by, size_with, count_with, text_with, find_in, Spells, Lists};
 
 use assembly_rules::{Fault, Shape};
 
-// What an instruction is listed by; 0 is no name.
+// What an instruction is listed by.
 #[derive(Clone, Copy)]
 struct Found {
     name: u32,
@@ -61,34 +61,39 @@ fn byte_at(rest: &[u8], k: usize) -> u8
     rest.get(k).copied().unwrap_or(0)
 }
 
-// The instruction that some bytes begin with, where all its own are there; else none. The compiler would keep it apart, since it is called
-// at two places, and a listing took a fifth longer.
+// The instruction that some bytes begin with, where all its own are there. The compiler would keep it apart, since it is called at two
+// places, and a listing took a fifth longer.
 #[inline(always)]
-fn find(rest: &[u8]) -> Found
-    ensures { Finds (whole_in rest.now) result.name result.shape }
+fn find(rest: &[u8]) -> Option<Found>
+    ensures { result ≡ find_in rest.now }
 {
     let found = decode::decode(byte_at(rest, 0), byte_at(rest, 1), byte_at(rest, 2));
+    let name = names::name_of(found);
     let shape = names::shape_of(found);
-    if rest.len() < size_of(shape) {
-        return Found {
-            name: 0,
-            shape: Shape::Implied,
-        };
-    }
-    Found {
-        name: names::name_of(found),
-        shape,
+    if name != 0 && size_of(shape) <= rest.len() {
+        Some(Found { name, shape })
+    } else {
+        None
     }
 }
 
-// "a byte that starts no whole instruction is listed as a line of BYTE and its value": nine characters
-fn count_with(found: Found) -> usize
-    ensures { result ≡ count_by found.name found.shape }
+// "a byte that starts no whole instruction is listed as a line of BYTE and its value": one byte, nine characters
+fn size_with(found: Option<Found>) -> usize
+    ensures { result ≡ size_with found }
 {
-    if found.name == 0 {
-        return 9;
+    match found {
+        Some(f) => size_of(f.shape),
+        None => 1,
     }
-    count_of(found.shape)
+}
+
+fn count_with(found: Option<Found>) -> usize
+    ensures { result ≡ count_with found }
+{
+    match found {
+        Some(f) => count_of(f.shape),
+        None => 9,
+    }
 }
 
 // "34 no room": whether all lines fit.
@@ -104,7 +109,7 @@ fn measure(bytes: &[u8], room: usize) -> Result<usize, Fault>
             return Err(Fault::NoRoom);
         }
         count += more;
-        rest = &rest[size_of(found.shape)..];
+        rest = &rest[size_with(found)..];
     }
     Ok(count)
 }
@@ -138,13 +143,13 @@ fn branch_line(name: u32, to: u16) -> [u8; 12]
 }
 
 // An instruction's line: "one space after the mnemonic and no other".
-fn instruction_line(a: u16, low: u8, high: u8, found: Found) -> [u8; 12]
-    ensures { Spells (letters_of found.name ++ operand_text a low high found.shape) (4 + length (operand_text 0 0 0 found.shape)) result }
+fn instruction_line(f: Found, a: u16, low: u8, high: u8) -> [u8; 12]
+    ensures { Spells (letters_of f.name ++ operand_text a low high f.shape) (4 + length (operand_text 0 0 0 f.shape)) result }
 {
-    let [x, y, z] = letters_of(found.name);
+    let [x, y, z] = letters_of(f.name);
     let [h, g] = hex(high);
     let [l, k] = hex(low);
-    match found.shape {
+    match f.shape {
         Shape::Implied => [x, y, z, b'\n', 0, 0, 0, 0, 0, 0, 0, 0],
         Shape::Accumulator => [x, y, z, b' ', b'A', b'\n', 0, 0, 0, 0, 0, 0],
         Shape::Immediate => [x, y, z, b' ', b'#', b'$', l, k, b'\n', 0, 0, 0],
@@ -153,7 +158,7 @@ fn instruction_line(a: u16, low: u8, high: u8, found: Found) -> [u8; 12]
         Shape::ZeroY => [x, y, z, b' ', b'$', l, k, b',', b'Y', b'\n', 0, 0],
         Shape::IndirectX => [x, y, z, b' ', b'(', b'$', l, k, b',', b'X', b')', b'\n'],
         Shape::IndirectY => [x, y, z, b' ', b'(', b'$', l, k, b')', b',', b'Y', b'\n'],
-        Shape::Relative => branch_line(found.name, addresses::target(a.wrapping_add(2), low)),
+        Shape::Relative => branch_line(f.name, addresses::target(a.wrapping_add(2), low)),
         Shape::Absolute => [x, y, z, b' ', b'$', h, g, l, k, b'\n', 0, 0],
         Shape::AbsoluteX => [x, y, z, b' ', b'$', h, g, l, k, b',', b'X', b'\n'],
         Shape::AbsoluteY => [x, y, z, b' ', b'$', h, g, l, k, b',', b'Y', b'\n'],
@@ -169,13 +174,13 @@ fn byte_line(v: u8) -> [u8; 12]
 }
 
 // The line of what was found at an address, its LF the last of the characters at the front of twelve.
-fn line_of(found: Found, a: u16, rest: &[u8]) -> [u8; 12]
-    ensures { Spells (text_by a rest.now found.name found.shape) (count_by found.name found.shape) result }
+fn line_of(found: Option<Found>, a: u16, rest: &[u8]) -> [u8; 12]
+    ensures { Spells (text_with a rest.now found) (count_with found) result }
 {
-    if found.name == 0 {
-        return byte_line(byte_at(rest, 0));
+    match found {
+        Some(f) => instruction_line(f, a, byte_at(rest, 1), byte_at(rest, 2)),
+        None => byte_line(byte_at(rest, 0)),
     }
-    instruction_line(a, byte_at(rest, 1), byte_at(rest, 2), found)
 }
 
 fn put_if(text: &mut [u8], place: usize, c: u8, here: bool)
@@ -209,7 +214,7 @@ fn put_lines(bytes: &[u8], start: u16, text: &mut [u8])
         let found = find(rest);
         let line = line_of(found, a, rest);
         let count = count_with(found);
-        let size = size_of(found.shape);
+        let size = size_with(found);
         put_line(text, at, &line, count);
         at += count;
         a = a.wrapping_add(size as u16);

@@ -18,9 +18,9 @@ returns-then-room-count c =
 pub loop-rest-preserved : goal.loop-rest-preserved
 loop-rest-preserved c =
     let l = c.loop-rest in
-    let size = c.size_of.result in
+    let size = c.size_with.result in
     let some = some_left l.rest.now c.is_empty.ensures c.loop-rest-test.true in
-    let more = rw (← c.size_of.ensures, ← c.count_with-more.ensures) at (longer l.rest.now some c.find-found.ensures 0 0) in
+    let more = rw (← c.size_with.ensures, ← c.count_with-more.ensures) at (longer l.rest.now some c.find-found.ensures 0 0) in
     let counted : l.count + c.count_with-more.result + length (text_of 0 (drop size l.rest.now)) ≡ length (text_of 0 c.args.bytes.now)
     = omega (arith, more, l.invariant.counted) in
     record { fits = omega arith; counted = rw take_rest counted }
