@@ -18,6 +18,7 @@ pub fn fill<R: Read, const N: usize>(input: &mut R, buffer: &mut [u8; N]) -> io:
 {
     let mut done = 0;
     while done < buffer.len() {
+        // The checker lends no part of an array of any length, but of a slice.
         let room = &mut buffer[..];
         let n = input.read(&mut room[done..])?;
         if n == 0 {
