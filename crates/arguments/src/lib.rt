@@ -5,7 +5,6 @@
 ghost use Rattle.std.specs.Prelude.{◌≡◌, ◌≤◌, length, IfSome};
 ghost use Rattle.arguments.specs.Start.{start_of};
 
-use operands::Found;
 use std::env::{Env, FillError};
 
 // The only argument, put into the room that is lent; nothing where there is none, or a second one, or it is longer than the room.
@@ -24,13 +23,7 @@ pub fn start_of(argument: &[u8]) -> Option<u16>
     ensures { result ≡ start_of argument.now }
 {
     match operands::number(argument, 0) {
-        Some(
-            Found {
-                value,
-                four: true,
-                at,
-            },
-        ) if at == argument.len() => Some(value),
+        Some(found) if found.four && found.at == argument.len() => Some(found.value),
         _ => None,
     }
 }
