@@ -11,6 +11,7 @@ ghost use Rattle.assembly_rules.specs.Listing.{letters_of, operand_text, line_at
 ghost use Rattle.source.specs.Lines.{size_by, count_by, whole_in, text_by, Spells, Measures, Holds, Lists};
 
 use assembly_rules::{Fault, Listing, Shape};
+use characters::hex;
 use rules::Instruction;
 
 // A line's characters, its LF the last of them, at the front of twelve.
@@ -141,12 +142,6 @@ fn measure(bytes: &[u8], room: usize) -> Listing
         i += m.size;
     }
     Listing::Listed(count)
-}
-
-fn hex(v: u8) -> [u8; 2]
-    ensures { result ≡ hex v }
-{
-    [characters::digit(v / 16), characters::digit(v % 16)]
 }
 
 // A mnemonic's three.
