@@ -8,14 +8,16 @@ use mathlib.Core.Path.{◌≡◌, refl, sym, ap, ◌∙◌}
 use mathlib.Core.List.{List, [], ◌∷◌, ◌++◌, append_assoc}
 use borrow.Author.Tests.{lt-ltb, le-ltb}
 use lib.Dec.{ltb}
-use lib.ListN.{length, take, drop, set, length-append, length-drop, length-set}
-use lib.Seq.{sets, sets-eq, take-suc, length-take-le, drop-cons, drop-set-lt, get_or-set_same}
+use lib.ListN.{length, take, drop, set, length-append, length-set}
+use lib.Seq.{sets, sets-eq, take-suc, length-take-le, drop-cons, drop-set-lt, get_or-set_same, take-length}
+use borrow.Rule.Slice.PartMut.{put_mid}
+use Rattle.std.proofs.lemmas.Slice.{put_mid-paste}
 use Rattle.rules.specs.Basics.{at}
 use Rattle.rules.specs.Step.{front}
-use Rattle.rules.specs.Text.{digit, digits, decimal, spaced, number_line, each}
-use Rattle.laws.proofs.Lists.{sets_append, rest_lent}
+use Rattle.rules.specs.Text.{digit, digits, spaced, number_line, each}
+use Rattle.laws.proofs.Lists.{sets_append}
 use Rattle.laws.proofs.Tests.{if_case}
-use Rattle.characters.specs.Shown.{Spells, Puts, Shows}
+use Rattle.characters.specs.Shown.{Puts, Shows}
 
 -- one element more of a piece
 pub sets_more : (t l : List ℕ) (p k : ℕ) → k < length l → set (sets t p (take k l)) (p + k) (at l k) ≡ sets t p (take (suc k) l)
@@ -26,12 +28,6 @@ sets_more t l p k h =
 -- "These fill the buffer's front; later bytes stay."
 pub sets_front : (l t : List ℕ) → length l ≤ length t → sets t 0 l ≡ front l t
 sets_front l t h = let z : 0 + length l ≡ length l = omega arith in sets-eq l t 0 (omega arith) ∙ (rw z)
-
--- one more, behind what is put already
-pub each_more : (f : ℕ → List ℕ) (n p q : ℕ) (t : List ℕ) → q ≡ p + length (each n f) →
-    sets (sets t p (each n f)) q (f n) ≡ sets t p (each (suc n) f)
-unfolding each
-each_more f n p q t e = rw e (sym (sets_append (each n f) (f n) t p))
 
 -- an element is written before the rest of a list
 set_before : (l : List ℕ) (p v : ℕ) → p < length l → drop p (set l p v) ≡ v ∷ drop (suc p) l
@@ -93,6 +89,13 @@ module _ (spelt bytes : List ℕ) where
 pub puts_piece : (l : List ℕ) (p : ℕ) {t t' : List ℕ} → t' ≡ sets t p l → Puts l p (p + length l) t t'
 puts_piece l p e = record { end = refl; text = e }
 
+-- a piece that is copied to its place
+pub puts_copied : (l u t : List ℕ) (p : ℕ) → p + length l ≤ length t → u ≡ l →
+    Puts l p (p + length l) t (put_mid p (p + length l - p) t u)
+puts_copied l u t p h e =
+    let size : length l ≡ p + length l - p = omega arith in
+    puts_piece l p (put_mid-paste p (p + length l - p) t u l (length l) e size refl ∙ (rw (take-length l) (sym (sets-eq l t p h))))
+
 -- one text, and another behind it
 pub puts_append : {a b t u v : List ℕ} {p q r : ℕ} → Puts a p q t u → Puts b q r u v → Puts (a ++ b) p r t v
 puts_append {a} {b} {t} {u} {v} {p} {q} {r} x y =
@@ -101,23 +104,14 @@ puts_append {a} {b} {t} {u} {v} {p} {q} {r} x y =
       text = y.text ∙ (rw (x.text, x.end) (sym (sets_append a b t p)));
     }
 
--- a space and the digits behind it
-pub spaced_put : (n from p : ℕ) (bytes t : List ℕ) → Spells n from bytes →
-    Puts (spaced n) p (p + 21 - from) t (sets (sets t p (code " " ∷ [])) (p + 1) (take (20 - from) (drop from bytes)))
-spaced_put n from p bytes t s =
-    let all = ap (λ (k : ℕ). take (k - from) (drop from bytes)) (sym s.size) ∙ rest_lent from bytes ∙ s.digits in
-    let size : length (decimal n) ≡ 20 - from = rw (← s.digits, length-drop from bytes, s.size) in
-    record { end = omega (arith, size, s.inside); text = rw (add-one p, all) }
+-- one more, behind those that are put already
+pub puts_each : (f : ℕ → List ℕ) (n : ℕ) {p q r : ℕ} {t u v : List ℕ} → Puts (each n f) p q t u → Puts (f n) q r u v →
+    Puts (each (n + 1) f) p r t v
+unfolding each
+puts_each f n a b = rw (add-one n) (puts_append a b)
 
 pub spaced_most : (n : ℕ) → length (spaced n) ≤ 21
 spaced_most n = let h = digits_most 20 n in omega arith
-
--- a letter, a space and a number, and the line's end
-pub number_put : (letter n p q : ℕ) (t u v w : List ℕ) → u ≡ sets t p (letter ∷ []) → Puts (spaced n) (p + 1) q u v →
-    w ≡ sets v q (code "\n" ∷ []) → Puts (number_line letter n) p (q + 1) t w
-unfolding number_line
-number_put letter n p q t u v w a b d =
-    puts_append (puts_piece (letter ∷ []) p a) (puts_append b (puts_piece (code "\n" ∷ []) q d))
 
 pub number_most : (letter n : ℕ) → length (number_line letter n) ≤ 23
 unfolding number_line

@@ -1,31 +1,21 @@
 -- The lines of the report, put one behind the other.
 use Prim.Native.Nat.{ℕ, zero, suc, ◌+◌, ◌*◌, ◌≤◌, ◌^◌}
 use Prim.Native.Char.{code}
-use native.Mathlib.Numerals.{add-one}
 use native.Mathlib.Omega.{arith}
 use mathlib.Core.Path.{◌≡◌}
 use mathlib.Core.Bool.{Bool, true, false, ◌&&◌}
 use mathlib.Core.List.{List, [], ◌∷◌, ◌++◌}
 use lib.Dec.{ltb, eqb}
 use lib.ListN.{length, length-append}
-use lib.Seq.{sets}
 use Rattle.rules.specs.declared.Refusal.TheVariants.{Total}
 use Rattle.rules.specs.Basics.{when◌then◌else◌, at}
-use Rattle.rules.specs.Text.{hex, spaced, each, number_line, refusal_line}
+use Rattle.rules.specs.Text.{spaced, each, number_line, refusal_line}
 use Rattle.rules.specs.Pages.{sum, page_line, traffic_line, report_text}
 use Rattle.laws.proofs.Tests.{if_case}
 use Rattle.std.specs.Prelude.{Ok, Some, None}
 use Rattle.totals.specs.Totals.{total_of}
 use Rattle.characters.specs.Shown.{Puts, Shows}
-use Rattle.characters.proofs.Laws.{spaced_most, number_most, puts_piece, puts_append, puts_shown}
-
--- a page, its reads, its writes, and the line's end
-pub page_put : (page r w p q e : ℕ) (t u v x y : List ℕ) → u ≡ sets t p (hex page) → Puts (spaced r) (p + 2) q u v →
-    Puts (spaced w) q e v x →
-    y ≡ sets x e (code "\n" ∷ []) → Puts (page_line page r w) p (e + 1) t y
-unfolding page_line
-page_put page r w p q e t u v x y a b c d =
-    puts_append (puts_append (puts_append (puts_piece (hex page) p a) b) c) (puts_piece (code "\n" ∷ []) e d)
+use Rattle.characters.proofs.Laws.{spaced_most, number_most, puts_append, puts_shown}
 
 page_most : (page r w : ℕ) → length (page_line page r w) ≤ 45
 unfolding page_line
@@ -46,13 +36,6 @@ module _ (reads writes : List ℕ) where
   pages_most (suc n) =
       omega (arith, pages_most n, traffic_most n, length-append (each n (traffic_line reads writes)) (traffic_line reads writes n))
 
-  -- one page more
-  pub pages_more : (n q r : ℕ) {t u v : List ℕ} → Puts (each n (traffic_line reads writes)) 0 q t u →
-      Puts (traffic_line reads writes n) q r u v →
-      Puts (each (n + 1) (traffic_line reads writes)) 0 r t v
-  unfolding each
-  pages_more n q r a b = rw (add-one n) (puts_append a b)
-
   -- the report, as the test of the total comes out
   abbrev reported : Bool → List ℕ
   reported f =
@@ -72,12 +55,3 @@ module _ (reads writes : List ℕ) where
           (let size = length-append (each 256 (traffic_line reads writes)) (number_line (code "T") total) in
           puts_shown (puts_append a b) (omega (arith, pages_most 256, number_most (code "T") total, size)))
       go false h = let z : ◌≡◌ {A = ℕ} 0 1 = cc in absurd (omega arith)
-
-  pub past_shown : (r : ℕ) (t v : List ℕ) → None ≡ total_of (sum reads + sum writes) → Shows (refusal_line Total) r t v →
-      Shows (report_text (Ok tt) reads writes) r t v
-  past_shown r t v e s = go (ltb (sum reads + sum writes) (2 ^ 64)) e
-    where
-      go : (f : Bool) → None ≡ (when f then Some (sum reads + sum writes) else None) →
-          Shows (reported f) r t v
-      go true h = let z : ◌≡◌ {A = ℕ} 0 1 = cc in absurd (omega arith)
-      go false h = s

@@ -11,6 +11,7 @@ ghost use Rattle.assembly_rules.specs.Listing.{letters_of, operand_text, text_of
 ghost use Rattle.source.specs.Lines.{size_by, size_with, count_with, text_with, find_in, Spells, Lists};
 
 use assembly_rules::{Fault, Shape};
+use characters::hex;
 
 // What an instruction is listed by.
 #[derive(Clone, Copy)]
@@ -112,12 +113,6 @@ fn measure(bytes: &[u8], room: usize) -> Result<usize, Fault>
         rest = &rest[size_with(found)..];
     }
     Ok(count)
-}
-
-fn hex(v: u8) -> [u8; 2]
-    ensures { result ≡ hex v }
-{
-    [characters::digit(v / 16), characters::digit(v % 16)]
 }
 
 // A mnemonic's three.

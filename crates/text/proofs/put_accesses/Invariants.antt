@@ -1,11 +1,6 @@
 use Rattle.rules.specs.Text.{each, line_of}
-use Prim.Native.Nat.{◌-◌, ◌≤◌}
-use mathlib.Core.Path.{◌≡◌}
-use lib.Seq.{sets}
+use Rattle.characters.specs.Shown.{Puts}
 use Rattle.text.proofs.put_accesses.Given as goal
 
-abbrev pub invariant-loop-k : goal.invariant-loop-k
-invariant-loop-k l = (l.k ≤ l.n) × (l.text ≡ sets l.initial.text 0 (each l.k (line_of l.list)))
-
-abbrev pub decreases-loop-k : goal.decreases-loop-k
-decreases-loop-k l = l.n - l.k
+abbrev pub invariant-loop-access : goal.invariant-loop-access
+invariant-loop-access l = Puts (each l.access-index (line_of l.list)) 0 l.at l.initial.text l.text

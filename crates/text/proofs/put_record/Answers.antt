@@ -1,6 +1,7 @@
-use Rattle.text.proofs.Laws.{record_put}
+use Rattle.rules.specs.Text.{record_line}
+use Rattle.characters.proofs.Laws.{puts_append}
 use Rattle.text.proofs.put_record.Goals as goal
 
 pub returns : goal.returns
-returns c =
-    rw (c.put-2.ensures, c.put_bytes.ensures, c.put.ensures) (record_put _ _ _)
+unfolding record_line
+returns c = puts_append c.put-at.ensures (puts_append c.put_bytes-at.ensures c.put.ensures)
