@@ -124,47 +124,49 @@ pub(crate) fn rules_for(
 ) -> Result<Successors, Refusal>
     ensures { result ≡ rules_of m i next second instruction }
 {
-    let on = goes_on(m, next);
-    match instruction {
-        Instruction::Read(_, _) | Instruction::Accumulator(_) | Instruction::Implied(_) => Ok(
-            Successors::One(on),
-        ),
+    let on = Successors::One(goes_on(m, next));
+    let asked = match instruction {
+        Instruction::Read(_, _) | Instruction::Accumulator(_) | Instruction::Implied(_) => on,
         Instruction::Store(_, mode) | Instruction::Change(_, mode) => {
             store_rules(mode, i)?;
-            Ok(Successors::One(on))
+            on
         }
-        Instruction::AtStack(Stacking::Php | Stacking::Pha) => Ok(Successors::One(goes_up(
-            m, next,
-        ))),
+        Instruction::AtStack(Stacking::Php | Stacking::Pha) => Successors::One(goes_up(m, next)),
         Instruction::AtStack(Stacking::Pla) => {
             require(m.height >= 1, Refusal::Stack(i))?;
-            Ok(Successors::One(goes_down(m, next)))
+            Successors::One(goes_down(m, next))
         }
         Instruction::AtStack(Stacking::Rts) => {
             require(is_at_zero(m, marks::ROUTINE), Refusal::Stack(i))?;
-            Ok(Successors::None)
+            Successors::None
         }
         Instruction::AtStack(Stacking::Rti) => {
             require(is_at_zero(m, marks::HANDLER), Refusal::Stack(i))?;
-            Ok(Successors::None)
+            Successors::None
         }
-        Instruction::Branch(_, o) => Ok(Successors::Two(
-            on,
+        Instruction::Branch(_, o) => Successors::Two(
+            goes_on(m, next),
             goes_on(m, addresses::target(next, o)),
-        )),
-        Instruction::Jump(low, high) => Ok(Successors::One(goes_on(m, addresses::join(low, high)))),
-        Instruction::Jsr(low) => Ok(Successors::Two(on, calls(m, addresses::join(low, second)))),
+        ),
+        Instruction::Jump(low, high) => Successors::One(goes_on(m, addresses::join(low, high))),
+        Instruction::Jsr(low) => Successors::Two(
+            goes_on(m, next),
+            calls(m, addresses::join(low, second)),
+        ),
         Instruction::Txs => {
             require(is_at_zero(m, marks::MAIN), Refusal::Stack(i))?;
-            Ok(Successors::One(on))
+            on
         }
         Instruction::Cli => {
             require(m.kind == marks::MAIN, Refusal::Stack(i))?;
-            Ok(Successors::One(on))
+            on
         }
         Instruction::AtStack(Stacking::Plp)
         | Instruction::JumpIndirect(_, _)
         | Instruction::Brk
-        | Instruction::Undefined => { Err(Refusal::Place(i)) }
-    }
+        | Instruction::Undefined => {
+            return Err(Refusal::Place(i));
+        }
+    };
+    Ok(asked)
 }
