@@ -12,6 +12,7 @@ ghost use Rattle.assembler.specs.Cuts.{without_cr, Cuts};
 use assembly_rules::{BadLine, Fault, Line};
 
 // "a CR before it counts as space": what stands before a LF, without the CR that it may end with.
+#[tactic(auto, using(crate::proofs::Laws::ends_in_cr, crate::proofs::Laws::ends_otherwise))]
 fn without_cr(line: &[u8]) -> &[u8]
     ensures { result.now ≡ without_cr line.now }
 {

@@ -59,12 +59,14 @@ pub fn wankitare_pages(reads: &mut [u64; 256], writes: &mut [u64; 256], accesses
     }
 }
 
+#[tactic(auto, unfolding(assembly_rules::specs::Assembly::assemble_words))]
 pub fn wankitare_assemble(text: &[u8], start: u16, bytes: &mut [u8]) -> u64
     ensures { record { word = result; left = bytes.new } ≡ assemble_words text.now start bytes.old }
 {
     assembly_word(assembler::assemble(text, start, bytes))
 }
 
+#[tactic(auto, unfolding(assembly_rules::specs::Listing::list_words))]
 pub fn wankitare_list(bytes: &[u8], start: u16, text: &mut [u8]) -> u64
     ensures { record { word = result; left = text.new } ≡ list_words bytes.now start text.old }
 {

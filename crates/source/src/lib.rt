@@ -189,6 +189,7 @@ fn put_if(text: &mut [u8], place: usize, c: u8, here: bool)
 
 // Puts a line's first characters at a place. A loop that ended with them would be a call of memcpy to the compiler, and the archive calls
 // nothing.
+#[tactic(auto, using(crate::proofs::Laws::put_more))]
 fn put_line(text: &mut [u8], at: usize, line: &[u8; 12], count: usize)
     requires { (count ≤ length line.now) × (at + count ≤ length text.old) }
     ensures { text.new ≡ sets text.old at (take count line.now) }
