@@ -20,7 +20,7 @@ fn assemble(rt: &(impl Print + Eprint + Alloc), text: &[u8], start: u16) -> io::
     let mut bytes = [0u8; 65536];
     match assembler::assemble(text, start, &mut bytes) {
         Ok(count) => {
-            or_tell(rt, "standard output", rt.write_all(&bytes[0..count]))?;
+            or_tell(rt, "standard output", rt.write_all(&bytes[..count]))?;
             Ok(())
         }
         Err(bad) => refuse(rt, bad.fault, bad.line),
@@ -31,7 +31,7 @@ fn assemble_input(rt: &(impl Input + Print + Eprint + Alloc), start: u16) -> io:
     let mut text = [0u8; ROOM];
     match or_tell(rt, "standard input", fill(&mut rt.reader(), &mut text))? {
         Some(ROOM) => eprintln!(rt; "standard input: a text has at most 4,194,304 bytes"),
-        Some(count) => assemble(rt, &text[0..count], start),
+        Some(count) => assemble(rt, &text[..count], start),
         None => Ok(()),
     }
 }

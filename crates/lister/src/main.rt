@@ -26,7 +26,7 @@ fn list(
 ) -> io::Result<()> {
     match source::list(bytes, start, text) {
         Ok(count) => {
-            or_tell(rt, "standard output", rt.write_all(&text[0..count]))?;
+            or_tell(rt, "standard output", rt.write_all(&text[..count]))?;
             Ok(())
         }
         Err(_e) => refuse(rt),
@@ -37,7 +37,7 @@ fn list_input(rt: &(impl Input + Print + Eprint + Alloc), start: u16) -> io::Res
     let mut bytes = [0u8; ROOM];
     match or_tell(rt, "standard input", fill(&mut rt.reader(), &mut bytes))? {
         Some(ROOM) => eprintln!(rt; "standard input: at most 65,536 bytes are listed"),
-        Some(count) => list(rt, &bytes[0..count], start, &mut [0u8; TEXT_ROOM]),
+        Some(count) => list(rt, &bytes[..count], start, &mut [0u8; TEXT_ROOM]),
         None => Ok(()),
     }
 }

@@ -94,7 +94,7 @@ fn main(rt: HostRuntime) -> io::Result<()> {
     if let Some(counts) = take_input(&rt)? {
         let mut text = [0u8; 11543];
         let n = report::print(counts, &mut text);
-        or_tell(&rt, "standard output", rt.write_all(&text[0..n]))?;
+        or_tell(&rt, "standard output", rt.write_all(&text[..n]))?;
     }
     Ok(())
 }

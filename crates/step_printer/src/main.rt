@@ -10,6 +10,6 @@ fn main(rt: HostRuntime) -> io::Result<()> {
     let mut input = [0u8; 65555];
     let n = fill(&mut rt.stdin(), &mut input)?;
     let mut printed = [0u8; 137];
-    let count = text::print(&mut input[0..n], &mut printed);
-    rt.stdout().write_all(&printed[0..count])
+    let count = text::print(&mut input[..n], &mut printed);
+    rt.stdout().write_all(&printed[..count])
 }
