@@ -232,7 +232,7 @@ pub struct Found {
 // The reads and the writes of each page, and whether the list that was fed last is among them.
 #[derive(Clone, Copy)]
 pub struct Counting {
-    pub answer: std::result::Result<(), Refusal>,
+    pub answer: Result<(), Refusal>,
     pub reads: [u64; 256],
     pub writes: [u64; 256],
 }
