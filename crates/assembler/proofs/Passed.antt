@@ -31,13 +31,12 @@ module _ (room n count : ℕ) (before : List ℕ) (go_on : List ℕ → Made) (e
           record { same = refl; size = t; fits = rw t (leb-true (count + length bytes) room f) }
       go false f g = cc
 
-  pub judged_go : (total : ℕ) (l : Result Line Fault) → step_to room count l ≡ Ok total →
-      Goes room n count total before (bytes_of l) go_on (judged room n before go_on l)
-  judged_go total (Ok Nothing) h = fits_go total [] h
-  judged_go total (Ok (One a)) h = fits_go total (a ∷ []) h
-  judged_go total (Ok (Two a b)) h = fits_go total (a ∷ b ∷ []) h
-  judged_go total (Ok (Three a b c)) h = fits_go total (a ∷ b ∷ c ∷ []) h
-  judged_go total (Err f) h = cc
+  pub judged_go : (total : ℕ) (l : Line) → step_to room count l ≡ Ok total →
+      Goes room n count total before (bytes_of l) go_on (judged room n before go_on (Ok l))
+  judged_go total Nothing h = fits_go total [] h
+  judged_go total (One a) h = fits_go total (a ∷ []) h
+  judged_go total (Two a b) h = fits_go total (a ∷ b ∷ []) h
+  judged_go total (Three a b c) h = fits_go total (a ∷ b ∷ c ∷ []) h
 
   fits_stop : (f : Fault) (bytes : List ℕ) → fitted_to room count (length bytes) ≡ Err f → fitted room n before go_on bytes ≡ wrong f n
   fits_stop f bytes h = rw e (go (leb (count + length bytes) room) h)
@@ -47,12 +46,11 @@ module _ (room n count : ℕ) (before : List ℕ) (go_on : List ℕ → Made) (e
       go true g = cc
       go false g = let t : Fault.NoRoom ≡ f = cc in rw t
 
-  pub judged_stop : (f : Fault) (l : Result Line Fault) → step_to room count l ≡ Err f → judged room n before go_on l ≡ wrong f n
-  judged_stop f (Ok Nothing) h = fits_stop f [] h
-  judged_stop f (Ok (One a)) h = fits_stop f (a ∷ []) h
-  judged_stop f (Ok (Two a b)) h = fits_stop f (a ∷ b ∷ []) h
-  judged_stop f (Ok (Three a b c)) h = fits_stop f (a ∷ b ∷ c ∷ []) h
-  judged_stop f (Err g) h = let t : g ≡ f = cc in rw t
+  pub judged_stop : (f : Fault) (l : Line) → step_to room count l ≡ Err f → judged room n before go_on (Ok l) ≡ wrong f n
+  judged_stop f Nothing h = fits_stop f [] h
+  judged_stop f (One a) h = fits_stop f (a ∷ []) h
+  judged_stop f (Two a b) h = fits_stop f (a ∷ b ∷ []) h
+  judged_stop f (Three a b c) h = fits_stop f (a ∷ b ∷ c ∷ []) h
 
 front_size : (before buffer : List ℕ) → length before ≤ length buffer → length (front before buffer) ≡ length buffer
 front_size before buffer h =
@@ -108,41 +106,51 @@ module _ {text : List ℕ} {start : ℕ} {buffer : List ℕ} {writing : Bool} {b
             p.kept ∙ (rw (w, same));
       }
 
-  module _ {line behind : List ℕ} (c : Cuts rest line behind) {l : Result Line Fault}
-      (here : l ≡ line_of (sum16 start count) line) {room : ℕ} (long : room ≡ length buffer) where
+  module _ {line behind : List ℕ} (c : Cuts rest line behind) {told : Result Line Fault}
+      (here : told ≡ line_of (sum16 start count) line) where
     -- the lines behind the next
     abbrev later : List ℕ → Made
     later all = lines start (length buffer) (suc n) all (lines_of behind)
 
     -- the next line, as it is judged
-    next : assembled start (length buffer) text ≡ judged (length buffer) n p.before later l
+    next : assembled start (length buffer) text ≡ judged (length buffer) n p.before later told
     unfolding lines
     next = p.same ∙ (rw c.same (rw (p.size, ← here)))
 
-    pub pass_stop : (bad : BadLine) → step_to room count l ≡ Err bad.fault → bad.line ≡ n →
+    refused : (bad : BadLine) → judged (length buffer) n p.before later told ≡ wrong bad.fault n → bad.line ≡ n →
         Passes (assembled start (length buffer) text) writing (Err bad) buffer bytes
-    pass_stop bad h e =
-        let m = next ∙ judged_stop (length buffer) n count p.before later p.size bad.fault l (rw long at h) in
+    refused bad h e =
+        let m = next ∙ h in
         record {
           answered = rw (m, ← e);
           judged = λ w. p.kept ∙ (rw w);
           written = λ w all k. let z : wrong bad.fault n ≡ made all = sym m ∙ k in cc;
         }
 
-    module _ {total : ℕ} (h : step_to room count l ≡ Ok total) where
-      goes : Goes (length buffer) n count total p.before (bytes_of l) later (judged (length buffer) n p.before later l)
-      goes = judged_go (length buffer) n count p.before _ p.size total l (rw long at h)
+    pub pass_bad : (bad : BadLine) → told ≡ Err bad.fault → bad.line ≡ n →
+        Passes (assembled start (length buffer) text) writing (Err bad) buffer bytes
+    pass_bad bad h e = refused bad (rw h) e
 
-      pub pass_more : {bytes' : List ℕ} → bytes' ≡ (when writing then sets bytes count (bytes_of l) else bytes) →
-          Passing text start buffer writing bytes' behind (n + 1) total
-      pass_more e =
-          let g = goes in
-          record {
-            before = p.before ++ bytes_of l;
-            size = length-append p.before (bytes_of l) ∙ (rw p.size (sym g.size));
-            fits = g.fits;
-            few = omega (arith, p.few, c.shorter);
-            same = next ∙ g.same ∙ (rw (add-one n));
-            kept =
-                e ∙ (rw p.kept (shown_more writing p.before (bytes_of l) buffer count p.size (omega (arith, g.size, g.fits))));
-          }
+    module _ {l : Line} (line-is : told ≡ Ok l) {room : ℕ} (long : room ≡ length buffer) where
+      pub pass_stop : (bad : BadLine) → step_to room count l ≡ Err bad.fault → bad.line ≡ n →
+          Passes (assembled start (length buffer) text) writing (Err bad) buffer bytes
+      pass_stop bad h e =
+          refused bad (rw line-is (judged_stop (length buffer) n count p.before later p.size bad.fault l (rw long at h))) e
+
+      module _ {total : ℕ} (h : step_to room count l ≡ Ok total) where
+        goes : Goes (length buffer) n count total p.before (bytes_of l) later (judged (length buffer) n p.before later (Ok l))
+        goes = judged_go (length buffer) n count p.before _ p.size total l (rw long at h)
+
+        pub pass_more : {bytes' : List ℕ} → bytes' ≡ (when writing then sets bytes count (bytes_of l) else bytes) →
+            Passing text start buffer writing bytes' behind (n + 1) total
+        pass_more e =
+            let g = goes in
+            record {
+              before = p.before ++ bytes_of l;
+              size = length-append p.before (bytes_of l) ∙ (rw p.size (sym g.size));
+              fits = g.fits;
+              few = omega (arith, p.few, c.shorter);
+              same = next ∙ ap (judged (length buffer) n p.before later) line-is ∙ g.same ∙ (rw (add-one n));
+              kept =
+                  e ∙ (rw p.kept (shown_more writing p.before (bytes_of l) buffer count p.size (omega (arith, g.size, g.fits))));
+            }

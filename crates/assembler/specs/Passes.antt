@@ -9,23 +9,21 @@ use Rattle.assembly_rules.specs.declared.Line.TheVariants.{Nothing, One, Two, Th
 use Rattle.assembly_rules.specs.declared.BadLine.{BadLine}
 use Rattle.assembly_rules.specs.Assembly.{Made, made, answer}
 
-abbrev pub bytes_of : Result Line Fault → List ℕ
-bytes_of (Ok Nothing) = []
-bytes_of (Ok (One a)) = a ∷ []
-bytes_of (Ok (Two a b)) = a ∷ b ∷ []
-bytes_of (Ok (Three a b c)) = a ∷ b ∷ c ∷ []
-bytes_of (Err e) = []
+abbrev pub bytes_of : Line → List ℕ
+bytes_of Nothing = []
+bytes_of (One a) = a ∷ []
+bytes_of (Two a b) = a ∷ b ∷ []
+bytes_of (Three a b c) = a ∷ b ∷ c ∷ []
 
 -- so many bytes more, behind the first count
 abbrev pub fitted_to : ℕ → ℕ → ℕ → Result ℕ Fault
 fitted_to room count size = when nat_le (count + size) room then Ok (count + size) else Err NoRoom
 
-abbrev pub step_to : ℕ → ℕ → Result Line Fault → Result ℕ Fault
-step_to room count (Ok Nothing) = fitted_to room count 0
-step_to room count (Ok (One a)) = fitted_to room count 1
-step_to room count (Ok (Two a b)) = fitted_to room count 2
-step_to room count (Ok (Three a b c)) = fitted_to room count 3
-step_to room count (Err e) = Err e
+abbrev pub step_to : ℕ → ℕ → Line → Result ℕ Fault
+step_to room count Nothing = fitted_to room count 0
+step_to room count (One a) = fitted_to room count 1
+step_to room count (Two a b) = fitted_to room count 2
+step_to room count (Three a b c) = fitted_to room count 3
 
 -- a pass that writes, or only judges
 pub record Passes (m : Made) (writing : Bool) (a : Result ℕ BadLine) (buffer buffer' : List ℕ) : Type 0 where

@@ -51,42 +51,40 @@ fn fitted(room: usize, count: usize, size: usize) -> Result<usize, Fault>
     Ok(count + size)
 }
 
-fn step_to(room: usize, count: usize, l: Result<Line, Fault>) -> Result<usize, Fault>
+fn step_to(room: usize, count: usize, l: Line) -> Result<usize, Fault>
     requires { count ≤ room }
     ensures { result ≡ step_to room count l }
 {
     match l {
-        Ok(Line::Nothing) => fitted(room, count, 0),
-        Ok(Line::One(_a)) => fitted(room, count, 1),
-        Ok(Line::Two(_a, _b)) => fitted(room, count, 2),
-        Ok(Line::Three(_a, _b, _c)) => fitted(room, count, 3),
-        Err(e) => Err(e),
+        Line::Nothing => fitted(room, count, 0),
+        Line::One(_a) => fitted(room, count, 1),
+        Line::Two(_a, _b) => fitted(room, count, 2),
+        Line::Three(_a, _b, _c) => fitted(room, count, 3),
     }
 }
 
-fn put_line(bytes: &mut [u8], at: usize, l: Result<Line, Fault>)
+fn put_line(bytes: &mut [u8], at: usize, l: Line)
     requires { at + length (bytes_of l) ≤ length bytes.old }
     ensures { bytes.new ≡ sets bytes.old at (bytes_of l) }
 {
     match l {
-        Ok(Line::Nothing) => {}
-        Ok(Line::One(a)) => {
+        Line::Nothing => {}
+        Line::One(a) => {
             bytes[at] = a;
         }
-        Ok(Line::Two(a, b)) => {
+        Line::Two(a, b) => {
             bytes[at] = a;
             bytes[at + 1] = b;
         }
-        Ok(Line::Three(a, b, c)) => {
+        Line::Three(a, b, c) => {
             bytes[at] = a;
             bytes[at + 1] = b;
             bytes[at + 2] = c;
         }
-        Err(_e) => {}
     }
 }
 
-fn put_if(bytes: &mut [u8], at: usize, l: Result<Line, Fault>, writing: bool)
+fn put_if(bytes: &mut [u8], at: usize, l: Line, writing: bool)
     requires { at + length (bytes_of l) ≤ length bytes.old }
     ensures { bytes.new ≡ (when writing then sets bytes.old at (bytes_of l) else bytes.old) }
 {
@@ -105,7 +103,8 @@ fn pass(text: &[u8], start: u16, bytes: &mut [u8], writing: bool) -> Result<usiz
     let mut count = 0;
     while !rest.is_empty() {
         let (line, behind) = cut(rest);
-        let l = lines::line_of(line, address_of(start, count));
+        let told = lines::line_of(line, address_of(start, count));
+        let l = told.map_err(|fault| BadLine { fault, line: n })?;
         let total = step_to(bytes.len(), count, l).map_err(|fault| BadLine { fault, line: n })?;
         put_if(bytes, count, l, writing);
         count = total;
