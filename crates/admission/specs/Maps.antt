@@ -3,6 +3,10 @@ use Rattle.std.specs.Prelude.{◌≡◌, ℕ, ◌+◌, ◌*◌, ◌<◌, ◌≤�
 use Rattle.std.specs.Option.{option_map_or}
 use Rattle.rules.specs.Basics.{at, address}
 use Rattle.admission_rules.specs.declared.Mark.{Mark}
+use Rattle.admission_rules.specs.declared.Successor.{Successor}
+use Rattle.admission_rules.specs.declared.Successors.{Successors}
+use Rattle.admission_rules.specs.declared.Successors.TheVariants as successors
+use Rattle.admission_rules.specs.declared.Successors.TheVariants.{One, Two}
 use Rattle.admission_rules.specs.Admission.{main, handler, mark_at, marks_in, marked, is_mark, ascends}
 
 -- the bytes of a map that was cut into records of eight
@@ -60,3 +64,9 @@ pub record Found (map : List ℕ) (p r : ℕ) : Type 0 where
 -- r is the need of the mark of p with this kind and height, if there is one: a test of needs says the same of r as of the map
 pub record NeedAt (map : List ℕ) (p kind height : ℕ) (r : Option ℕ) : Type 0 where
   pub tells : (f : ℕ → Bool) → option_map_or f r false ≡ (marked map λ s. is_mark p kind height s && f s.need)
+
+-- a record's successors, one after the other
+abbrev pub in_order : Successors → List (Option Successor)
+in_order successors.None = None ∷ None ∷ []
+in_order (One s) = Some s ∷ None ∷ []
+in_order (Two s t) = Some s ∷ Some t ∷ []

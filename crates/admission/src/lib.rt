@@ -12,6 +12,7 @@ ghost use Rattle.rules.specs.Bus.{images};
 ghost use Rattle.admission_rules.specs.Admission.{marks_in, input_fits, vector_at, vectors_hold, of_records};
 ghost use Rattle.admission_rules.specs.Admission.{reached, rules_at, rule_tests, admit};
 ghost use Rattle.admission_rules.specs.Safety.{Safe};
+ghost use Rattle.admission.specs.Maps.{in_order};
 
 use admission_rules::{Successor, Successors};
 use marks::Map;
@@ -72,42 +73,44 @@ fn rules_at(image: &[u8; 65536], c: u8, map: &Map, i: u16) -> Result<Successors,
     instruction_rules::rules_for(instruction, high, m, a.wrapping_add(size), i)
 }
 
-// 16, of one successor of record i; mostly it is the next record.
-fn asked(map: &Map, s: Successor, i: u16) -> Result<(), Refusal>
-    ensures { result ≡ (when reached map.now s then Ok tt else Err (Refusal.Successor i)) }
+// A record's successors, in order.
+fn in_order(successors: Successors) -> [Option<Successor>; 2]
+    ensures { result ≡ in_order successors }
 {
-    if is_reached(map, s, i as usize + 1) {
-        Ok(())
-    } else {
-        Err(Refusal::Successor(i))
+    match successors {
+        Successors::None => [None, None],
+        Successors::One(s) => [Some(s), None],
+        Successors::Two(s, t) => [Some(s), Some(t)],
     }
 }
 
-// 13 to 16 of record i.
-fn judge_record(image: &[u8; 65536], c: u8, map: &Map, i: u16) -> Result<(), Refusal>
-    requires { i < marks_in map.now }
-    ensures { result ≡ tested (rule_tests images image.now c map.now i) Err (Ok tt) }
-{
-    match rules_at(image, c, map, i)? {
-        Successors::None => Ok(()),
-        Successors::One(s) => asked(map, s, i),
-        Successors::Two(s, t) => {
-            asked(map, s, i)?;
-            asked(map, t, i)
-        }
-    }
-}
-
-// 13 to 16: "the lowest record, and at it the lowest number".
+// 13 to 16: "the lowest record, and at it the lowest number". The loop over the records and the one over a record's successors are both
+// left by the label at the first broken rule. A successor is mostly the next record.
 fn judge(image: &[u8; 65536], c: u8, map: &Map) -> Result<(), Refusal>
     ensures { result
         ≡ tested (of_records (rule_tests images image.now c map.now) 0 (marks_in map.now))
         Err (Ok tt) }
 {
-    for i in 0..map.len() {
-        judge_record(image, c, map, i)?;
+    let mut verdict = Ok(());
+    'records: for i in 0..map.len() {
+        match rules_at(image, c, map, i) {
+            Err(e) => {
+                verdict = Err(e);
+                break 'records;
+            }
+            Ok(successors) => {
+                for s in in_order(successors) {
+                    if let Some(s) = s
+                        && !is_reached(map, s, i as usize + 1)
+                    {
+                        verdict = Err(Refusal::Successor(i));
+                        break 'records;
+                    }
+                }
+            }
+        }
     }
-    Ok(())
+    verdict
 }
 
 // 10: "image length, c, map length 0, over 65,536 or no multiple of 8"
