@@ -1,6 +1,6 @@
 -- What is put piece by piece stands at the buffer's front.
 use Prim.Native.Char.{code}
-use Prim.Native.Nat.{ℕ, ◌/◌, ◌%◌, ◌≤◌}
+use Prim.Native.Nat.{ℕ, ◌%◌, ◌≤◌}
 use native.Mathlib.Omega.{arith}
 use mathlib.Core.Path.{◌≡◌}
 use mathlib.Core.List.{List}
@@ -11,7 +11,7 @@ use Rattle.rules.specs.declared.Refusal.{Refusal}
 use Rattle.rules.specs.Answers.{step_word}
 use Rattle.rules.specs.Text.{digits, line_of, number_line, count_line, step_text}
 use Rattle.characters.specs.Shown.{Shows}
-use Rattle.words.proofs.Laws.{low, counted}
+use Rattle.words.proofs.Laws.{low}
 use Rattle.text.proofs.Laws.{each_length, line_length, record_length}
 
 -- the count of a step is one digit
@@ -27,10 +27,6 @@ step_most n r l few =
 
 -- what is put for a step's word is the text of its answer
 module _ (word n : ℕ) (r l t t' : List ℕ) where
-  pub stepped_shown : word % 256 ≡ 0 → Shows (step_text (Ok (word / 256)) r l) n t t' →
-      (a : Result ℕ Refusal) → word ≡ step_word a → Shows (step_text a r l) n t t'
-  stepped_shown h s a e = rw (counted a word e h) s
-
   pub refused_shown : (word % 256 ≡ 0 → ⊥) → Shows (number_line (code "E") (word % 256)) n t t' →
       (a : Result ℕ Refusal) → word ≡ step_word a → Shows (step_text a r l) n t t'
   refused_shown h s (Ok k) e = absurd (h (omega (arith, e)))
