@@ -36,7 +36,7 @@ fn binary(a: u8, m: u8, f: Flags) -> Flagged
     let t = a as u16 + m as u16 + c;
     let value = (t % 256) as u8;
     Flagged {
-        value: value,
+        value,
         flags: Flags {
             n: 128 <= value,
             v: overflows(a, m, c),
@@ -139,7 +139,7 @@ pub(crate) fn sbc(a: u8, m: u8, f: Flags) -> Flagged
         let flags = plain.flags;
         return Flagged {
             value: difference(a, m, flags::bit(f.c) as u16),
-            flags: flags,
+            flags,
         };
     }
     plain
