@@ -1,9 +1,12 @@
 -- What `Goes`, `Does`, `Writes` and their like say of an exit is a function of the entry.
-use Prim.Native.Nat.{ℕ, ◌+◌, ◌*◌, ◌/◌}
+use Prim.Native.Nat.{ℕ, ◌+◌, ◌*◌, ◌/◌, ◌%◌, ◌≤◌}
 use native.Mathlib.Omega.{arith}
 use mathlib.Core.Path.{◌≡◌, refl, sym, ap, ◌∙◌}
 use mathlib.Core.Bool.{Bool, true, false}
 use mathlib.Core.List.{List}
+use mathlib.Core.HLevel.{is_prop→PathP}
+use native.Mathlib.Bridge.{le_prop}
+use native.Mathlib.Nat.{ℕ_set}
 use lib.ListN.{length}
 use lib.Seq.{sets}
 use Rattle.rules.specs.declared.Bus.{Bus}
@@ -59,15 +62,27 @@ writes d e j = let o = goes d.goes e.goes j in left tt ((d.bytes ∙ sym e.bytes
 banked_once : {n m : ℕ} → Banked n → Banked m → n / 65536 ≡ m / 65536 → n ≡ m
 banked_once (banked j p) (banked k q) e = omega (arith, p, q, e)
 
-pub wired : {κ : Bank} {u : Bus} {w w' : Wiring} → Wired κ w u → Wired κ w' u → w ≡ w'
-wired {w = w} {w' = w'} d e j =
+-- wirings of the same numbers are the same
+same_wiring : {w w' : Wiring} → w.base ≡ w'.base → w.size ≡ w'.size → w.plain ≡ w'.plain → w.bank ≡ w'.bank → w.pins ≡ w'.pins → w ≡ w'
+same_wiring {w = w} {w' = w'} base size plain bank pins j =
     record {
-      base = (d.base ∙ sym e.base) j;
-      size = banked_once d.banked e.banked (sym d.banks ∙ e.banks) j;
-      plain = (d.plain ∙ sym e.plain) j;
-      bank = (d.bank ∙ sym e.bank) j;
-      pins = (d.pins ∙ sym e.pins) j;
+      base = base j;
+      size = size j;
+      plain = plain j;
+      bank = bank j;
+      pins = pins j;
+      bank_within = is_prop→PathP (λ i. base i + 65536 ≤ size i) (λ i. le_prop) w.bank_within w'.bank_within j;
+      whole_banks = is_prop→PathP (λ i. size i % 65536 ≡ 0) (λ i. ℕ_set _ _) w.whole_banks w'.whole_banks j;
     }
+
+pub wired : {κ : Bank} {u : Bus} {w w' : Wiring} → Wired κ w u → Wired κ w' u → w ≡ w'
+wired d e =
+    same_wiring
+    (d.base ∙ sym e.base)
+    (banked_once d.banked e.banked (sym d.banks ∙ e.banks))
+    (d.plain ∙ sym e.plain)
+    (d.bank ∙ sym e.bank)
+    (d.pins ∙ sym e.pins)
 
 -- an instruction is executed in one way, or refused
 pub executed : {s : State} {i l : List ℕ} {n m : ℕ} {r' i' l' r'' i'' l'' : List ℕ} →

@@ -13,10 +13,10 @@ pub wire : (s : State) → UniqueWhere its.wire.Kinds.ps its.wire.Kinds.r
 wire s κs a h x y p q =
     answer
     refl
-    (wired (p.stands s h.bytes h.sound h.banked h.pins h.banks).wired
-    (q.stands s h.bytes h.sound h.banked h.pins h.banks).wired)
+    (wired (p.1 s h.bytes h.sound h.banked h.pins h.banks).wired
+    (q.1 s h.bytes h.sound h.banked h.pins h.banks).wired)
     refl
 
 pub indirect : (s : State) →
     UniqueWhere its.indirect.Kinds.ps its.indirect.Kinds.r (λ κs a. Stands execution s a.0.now a.1.0) its.indirect.Reads.Post
-indirect s κs a h x y p q = answer refl (wired (p.stands s h).wired (q.stands s h).wired) refl
+indirect s κs a h x y p q = answer refl (wired (p.1 s h).wired (q.1 s h).wired) refl
