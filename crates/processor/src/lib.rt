@@ -136,7 +136,7 @@ fn lay(
             change(o, at, state, w, image, list);
             at.count + 3
         }
-        _ => 0,
+        _ => unreachable!(),
     }
 }
 
@@ -362,7 +362,7 @@ fn perform(
             cli(pc, state);
             2
         }
-        Instruction::Undefined => 0,
+        Instruction::Undefined => unreachable!(),
     }
 }
 

@@ -1,8 +1,4 @@
-use Rattle.std.proofs.Common.{ℕ, List, [], ◌∷◌, arith}
-use types.Run.{OneOf}
-use denote.Enum.Declared.{tag_of}
-use Rattle.rules.specs.declared.Instruction.{Instruction}
-use Rattle.rules.specs.contracts.Instruction.{the_type}
+use Rattle.std.proofs.Common.{arith}
 use Rattle.processor.proofs.Lays.{is_store, is_change, three_left}
 use Rattle.processor.proofs.Fetches.{reached, stands_past}
 use Rattle.laws.specs.Sizes.{mode_size}
@@ -10,13 +6,6 @@ use Rattle.processor.specs.Rest.{rest}
 use Rattle.rules.specs.Operations.{perform}
 use Rattle.rules.specs.Cycles.{◌>>=◌}
 use Rattle.processor.proofs.lay.Goals as goal
-
--- the tags of all that does not lay
-unlaid : List ℕ
-unlaid = 0 ∷ 3 ∷ 4 ∷ 5 ∷ 6 ∷ 7 ∷ 8 ∷ 9 ∷ 10 ∷ 11 ∷ 12 ∷ 13 ∷ []
-
-others : Instruction → Type 0
-others i = OneOf unlaid (tag_of the_type i)
 
 pub returns-in-Store : goal.returns-in-Store
 unfolding perform rest
