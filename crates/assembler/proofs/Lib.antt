@@ -1,2 +1,3 @@
 pub mod Laws
 pub mod Passed
+pub mod Within

@@ -8,8 +8,6 @@ ghost use Rattle.rules.specs.Bus.{images};
 ghost use Rattle.rules.specs.Step.{step, left, worded};
 ghost use Rattle.rules.specs.Run.{run_of};
 
-use rules::Refusal;
-
 // "Step: 1 to 6 in order"
 pub fn wankitare_step(
     state: &mut [u8],
@@ -21,12 +19,10 @@ pub fn wankitare_step(
     ensures { left result state.new image.new accesses.new
         ≡ worded step_word (step images state.old image.old lines pins accesses.old) }
 {
-    let Some(bytes) = state.as_mut_array::<16>() else {
-        return words::refusal_word(Refusal::RecordLength);
-    };
-    if let Err(e) = checks::fit(bytes, image) {
+    if let Err(e) = checks::fit(state, image) {
         return words::refusal_word(e);
     }
+    let bytes = state.as_mut_array::<16>().unwrap();
     if lines == 0 && pins == 0 {
         return step::quiet(bytes, image, accesses);
     }

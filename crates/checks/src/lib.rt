@@ -1,4 +1,4 @@
-// What a step refuses before it looks at the program: "record malformed", "image length", lines and pins.
+// What a step refuses before it looks at the program: "record not 16 bytes", "record malformed", "image length", lines and pins.
 
 #![tactic(auto)]
 
@@ -22,10 +22,13 @@ pub fn lines_fit(part: u8, lines: u8, pins: u8) -> bool
     lines < 8 && !(part == 8 && lines / 2 % 2 == 1) && (part == 8 || pins == 0)
 }
 
-// What step and run refuse first of sixteen bytes and an image: 2, 3 in order. Any other length is 1, and gives no array.
-pub fn fit(state: &[u8; 16], image: &[u8]) -> Result<(), Refusal>
+// What step and run refuse first: 1, 2, 3 in order.
+pub fn fit(state: &[u8], image: &[u8]) -> Result<(), Refusal>
     ensures { result ≡ fit_of state.now image.now }
 {
+    if state.len() != 16 {
+        return Err(Refusal::RecordLength);
+    }
     if !formed::well_formed(state) {
         return Err(Refusal::Malformed);
     }

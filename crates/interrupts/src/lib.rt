@@ -6,7 +6,7 @@ ghost use Rattle.std.specs.Prelude.{◌<◌, ◌≤◌, length};
 ghost use Rattle.rules.specs.declared.State.{State};
 ghost use Rattle.rules.specs.Cycles.{execution};
 ghost use Rattle.rules.specs.Interrupts.{interrupt, reset};
-ghost use Rattle.wiring.specs.Wiring.{Stands};
+ghost use Rattle.wiring.specs.Wiring.{Stands, Ready};
 ghost use Rattle.laws.specs.Goes.{Goes, Does};
 ghost use Rattle.interrupts.specs.Reads.{two_reads, three_reads};
 
@@ -14,8 +14,8 @@ use rules::Purpose;
 use wiring::Wiring;
 
 // "read PC twice"
-fn two_reads(state: &[u8; 16], w: Wiring, image: &[u8], list: &mut [u8; 56], pc: u16)
-    requires { w.size ≤ length image.now }
+fn two_reads(state: &[u8; 16], w: Wiring, image: &[u8], list: &mut [u8], pc: u16)
+    requires { Ready w (length image.now) (length list.old) }
     ensures { (t : State) → Stands execution t state.now w →
         Goes (two_reads pc) 0 t.bus image.now list.old tt 2 t.bus image.now list.new }
 {
@@ -24,14 +24,8 @@ fn two_reads(state: &[u8; 16], w: Wiring, image: &[u8], list: &mut [u8; 56], pc:
 }
 
 // "IRQ, NMI: read PC twice, push PC high, low, P (bit 4 clear), read the vector (FFFE, FFFA), set I."
-pub fn interrupt(
-    vector: u16,
-    state: &mut [u8; 16],
-    w: Wiring,
-    image: &mut [u8],
-    list: &mut [u8; 56],
-)
-    requires { (vector < 65535) × (w.size ≤ length image.old) }
+pub fn interrupt(vector: u16, state: &mut [u8; 16], w: Wiring, image: &mut [u8], list: &mut [u8])
+    requires { (vector < 65535) × Ready w (length image.old) (length list.old) }
     ensures { (s : State) → Stands execution s state.old w →
         Does (interrupt vector s.cpu) 0 s image.old list.old 7 state.new image.new
         list.new }
@@ -45,8 +39,8 @@ pub fn interrupt(
 }
 
 // "three stack reads in place of pushes"
-fn three_reads(state: &[u8; 16], w: Wiring, image: &[u8], list: &mut [u8; 56], s: u8)
-    requires { w.size ≤ length image.now }
+fn three_reads(state: &[u8; 16], w: Wiring, image: &[u8], list: &mut [u8], s: u8)
+    requires { Ready w (length image.now) (length list.old) }
     ensures { (t : State) → Stands execution t state.now w →
         Goes (three_reads s) 2 t.bus image.now list.old tt 5 t.bus image.now list.new }
 {
@@ -66,8 +60,8 @@ fn three_reads(state: &[u8; 16], w: Wiring, image: &[u8], list: &mut [u8; 56], s
 }
 
 // "RES: the same with three stack reads in place of pushes, S lowered by 3, vector FFFC, I set, D kept"
-pub fn reset(state: &mut [u8; 16], w: Wiring, image: &[u8], list: &mut [u8; 56])
-    requires { w.size ≤ length image.now }
+pub fn reset(state: &mut [u8; 16], w: Wiring, image: &[u8], list: &mut [u8])
+    requires { Ready w (length image.now) (length list.old) }
     ensures { (s : State) → Stands execution s state.old w →
         Does (reset s.cpu) 0 s image.now list.old 7 state.new
         image.now list.new }

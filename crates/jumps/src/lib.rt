@@ -6,15 +6,15 @@ ghost use Rattle.std.specs.Prelude.{◌≤◌, length};
 ghost use Rattle.rules.specs.declared.State.{State};
 ghost use Rattle.rules.specs.Cycles.{execution};
 ghost use Rattle.rules.specs.Operations.{with_pc, jsr, jump_indirect};
-ghost use Rattle.wiring.specs.Wiring.{Stands};
+ghost use Rattle.wiring.specs.Wiring.{Stands, Ready};
 ghost use Rattle.laws.specs.Goes.{Does};
 
 use rules::Purpose;
 use wiring::Wiring;
 
 // "JSR: low, read at S, push PC+2 high, low, then high operand." PC+2 is pc here.
-pub fn jsr(low: u8, pc: u16, state: &mut [u8; 16], w: Wiring, image: &mut [u8], list: &mut [u8; 56])
-    requires { w.size ≤ length image.old }
+pub fn jsr(low: u8, pc: u16, state: &mut [u8; 16], w: Wiring, image: &mut [u8], list: &mut [u8])
+    requires { Ready w (length image.old) (length list.old) }
     ensures { (s : State) → Stands execution s state.old w →
         Does (jsr low (with_pc pc s.cpu)) 2 s image.old list.old 6 state.new image.new
         list.new }
@@ -36,8 +36,8 @@ pub fn jsr(low: u8, pc: u16, state: &mut [u8; 16], w: Wiring, image: &mut [u8], 
 }
 
 // "JMP (a): two operands, pointer"; document 02: "the second pointer byte is read in the same page, low byte wrapped"
-pub fn jump_indirect(a: u16, state: &mut [u8; 16], w: Wiring, image: &[u8], list: &mut [u8; 56])
-    requires { w.size ≤ length image.now }
+pub fn jump_indirect(a: u16, state: &mut [u8; 16], w: Wiring, image: &[u8], list: &mut [u8])
+    requires { Ready w (length image.now) (length list.old) }
     ensures { (s : State) → Stands execution s state.old w →
         Does (jump_indirect a s.cpu) 3 s image.now list.old 5 state.new image.now
         list.new }

@@ -25,8 +25,8 @@ fn purpose_number(purpose: Purpose) -> u8
 }
 
 // An access's address, bank and value, and four zeros.
-fn outline(list: &mut [u8; 56], k: usize, a: u16, bank: u8, v: u8)
-    requires { k < 7 }
+fn outline(list: &mut [u8], k: usize, a: u16, bank: u8, v: u8)
+    requires { (k < 7) × (56 ≤ length list.old) }
     ensures { list.new ≡ sets list.old (8 * k) (outline a bank v) }
 {
     let at = 8 * k;
@@ -43,8 +43,8 @@ fn outline(list: &mut [u8; 56], k: usize, a: u16, bank: u8, v: u8)
 
 // Lists a read: "8 bytes: address low, high, selected bank before the modulo (0 unless 6509), value, 0 read or 1 write", the purpose and
 // two zeros. Of the zeros and the purpose the compiler makes one store.
-pub fn note_read(purpose: Purpose, list: &mut [u8; 56], k: usize, a: u16, bank: u8, v: u8)
-    requires { k < 7 }
+pub fn note_read(purpose: Purpose, list: &mut [u8], k: usize, a: u16, bank: u8, v: u8)
+    requires { (k < 7) × (56 ≤ length list.old) }
     ensures { list.new ≡ sets list.old (8 * k)
         (bytes_of (record { address = a; bank = bank; value = v; kind = 0; purpose = purpose })) }
 {
@@ -53,8 +53,8 @@ pub fn note_read(purpose: Purpose, list: &mut [u8; 56], k: usize, a: u16, bank: 
 }
 
 // Lists a write.
-pub fn note_write(purpose: Purpose, list: &mut [u8; 56], k: usize, a: u16, bank: u8, v: u8)
-    requires { k < 7 }
+pub fn note_write(purpose: Purpose, list: &mut [u8], k: usize, a: u16, bank: u8, v: u8)
+    requires { (k < 7) × (56 ≤ length list.old) }
     ensures { list.new ≡ sets list.old (8 * k)
         (bytes_of (record { address = a; bank = bank; value = v; kind = 1; purpose = purpose })) }
 {

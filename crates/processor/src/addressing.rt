@@ -8,7 +8,7 @@ ghost use Rattle.rules.specs.declared.Mode.TheVariants.{IndirectX};
 ghost use Rattle.rules.specs.Cycles.{Bank, execution};
 ghost use Rattle.rules.specs.Basics.{address, sum16};
 ghost use Rattle.rules.specs.Addressing.{bank_of, get, old_page, pointer, zero_indexed, first_for, load_indexed, indexed, load, place};
-ghost use Rattle.wiring.specs.Wiring.{Stands};
+ghost use Rattle.wiring.specs.Wiring.{Stands, Ready};
 ghost use Rattle.laws.specs.Goes.{Goes};
 ghost use Rattle.rules.specs.Record.{record_of};
 ghost use Rattle.laws.specs.Sizes.{mode_size};
@@ -45,7 +45,8 @@ pub(crate) fn past(n: u16, pc: u16, state: &mut [u8; 16])
 }
 
 // The high byte of an address is listed, and PC is behind it.
-fn third(high: u8, pc: u16, state: &mut [u8; 16], w: Wiring, list: &mut [u8; 56])
+fn third(high: u8, pc: u16, state: &mut [u8; 16], w: Wiring, list: &mut [u8])
+    requires { 56 ≤ length list.old }
     ensures { (s : State) (i : List ℕ) → Fetched (λ v. high) s state.old i w pc →
         Opens 3 s i list.old state.new list.new }
 {
@@ -55,8 +56,8 @@ fn third(high: u8, pc: u16, state: &mut [u8; 16], w: Wiring, list: &mut [u8; 56]
 }
 
 // "pointer low, high (both in page zero)"
-fn pointer(state: &[u8; 16], w: Wiring, image: &[u8], list: &mut [u8; 56], k: usize, z: u8) -> u16
-    requires { (k < 6) × (w.size ≤ length image.now) }
+fn pointer(state: &[u8; 16], w: Wiring, image: &[u8], list: &mut [u8], k: usize, z: u8) -> u16
+    requires { (k < 6) × Ready w (length image.now) (length list.old) }
     ensures { (s : State) → Stands execution s state.now w →
         Goes (pointer z) k s.bus image.now list.old result (k + 2) s.bus
         image.now list.new }
@@ -70,12 +71,12 @@ fn indexed(
     state: &[u8; 16],
     w: Wiring,
     image: &[u8],
-    list: &mut [u8; 56],
+    list: &mut [u8],
     k: usize,
     a: u16,
     i: u8,
 ) -> u16
-    requires { (k < 7) × (w.size ≤ length image.now) }
+    requires { (k < 7) × Ready w (length image.now) (length list.old) }
     ensures { (s : State) (κ : Bank) → Stands κ s state.now w →
         Goes (indexed κ a i) k s.bus image.now list.old result (k + 1) s.bus image.now
         list.new }
@@ -107,12 +108,12 @@ fn load_indexed(
     state: &[u8; 16],
     w: Wiring,
     image: &[u8],
-    list: &mut [u8; 56],
+    list: &mut [u8],
     k: usize,
     a: u16,
     i: u8,
 ) -> Reached<u8>
-    requires { (k < 6) × (w.size ≤ length image.now) }
+    requires { (k < 6) × Ready w (length image.now) (length list.old) }
     ensures { (result.count ≤ k + 2) × ((s : State) (κ : Bank) → Stands κ s state.now w →
         Goes (load_indexed κ a i) k s.bus image.now list.old result.value result.count s.bus image.now
         list.new) }
@@ -140,8 +141,9 @@ pub(crate) fn absolute(
     pc: u16,
     state: &mut [u8; 16],
     w: Wiring,
-    list: &mut [u8; 56],
+    list: &mut [u8],
 ) -> u16
+    requires { 56 ≤ length list.old }
     ensures { (result ≡ address low high) × ((s : State) (i : List ℕ) → Fetched (λ v. high) s state.old i w pc →
         Opens 3 s i list.old state.new list.new) }
 {
@@ -157,9 +159,9 @@ fn zero_indexed(
     state: &mut [u8; 16],
     w: Wiring,
     image: &[u8],
-    list: &mut [u8; 56],
+    list: &mut [u8],
 ) -> u8
-    requires { w.size ≤ length image.now }
+    requires { Ready w (length image.now) (length list.old) }
     ensures { (s : State) → Stands execution s state.old w → pc ≡ s.cpu.pc →
         Reaches 2 (zero_indexed z i) s image.now list.old result 3 state.new list.new }
 {
@@ -177,9 +179,9 @@ fn at_absolute_indexed(
     state: &mut [u8; 16],
     w: Wiring,
     image: &[u8],
-    list: &mut [u8; 56],
+    list: &mut [u8],
 ) -> u16
-    requires { w.size ≤ length image.now }
+    requires { Ready w (length image.now) (length list.old) }
     ensures { (s : State) → Fetched (λ v. high) s state.old image.now w pc →
         Reaches 3 (indexed execution (address low high) i) s image.now list.old result 4
         state.new list.new }
@@ -195,9 +197,9 @@ fn at_indirect_x(
     state: &mut [u8; 16],
     w: Wiring,
     image: &[u8],
-    list: &mut [u8; 56],
+    list: &mut [u8],
 ) -> u16
-    requires { w.size ≤ length image.now }
+    requires { Ready w (length image.now) (length list.old) }
     ensures { (s : State) → Stands execution s state.old w → pc ≡ s.cpu.pc →
         Reaches 2 (place s.cpu (IndirectX z)) s image.now list.old result 5
         state.new list.new }
@@ -215,9 +217,9 @@ fn at_indirect_y(
     w: Wiring,
     there: Wiring,
     image: &[u8],
-    list: &mut [u8; 56],
+    list: &mut [u8],
 ) -> u16
-    requires { (w.size ≤ length image.now) × (there.size ≤ length image.now) }
+    requires { Ready w (length image.now) (length list.old) × Ready there (length image.now) (length list.old) }
     ensures { (s : State) (κ : Bank) → Stands execution s state.old w → pc ≡ s.cpu.pc →
         Stands κ s state.old there →
         Reaches 2 (place_through κ z s.cpu.y) s image.now list.old result 5
@@ -235,9 +237,9 @@ fn from_zero(
     state: &mut [u8; 16],
     w: Wiring,
     image: &[u8],
-    list: &mut [u8; 56],
+    list: &mut [u8],
 ) -> Reached<u8>
-    requires { w.size ≤ length image.now }
+    requires { Ready w (length image.now) (length list.old) }
     ensures { (result.count ≤ 7) × ((s : State) → Stands execution s state.old w → pc ≡ s.cpu.pc →
         Reaches 2 (get Data z) s image.now list.old result.value result.count
         state.new list.new) }
@@ -257,9 +259,9 @@ fn from_zero_indexed(
     state: &mut [u8; 16],
     w: Wiring,
     image: &[u8],
-    list: &mut [u8; 56],
+    list: &mut [u8],
 ) -> Reached<u8>
-    requires { w.size ≤ length image.now }
+    requires { Ready w (length image.now) (length list.old) }
     ensures { (result.count ≤ 7) × ((s : State) → Stands execution s state.old w → pc ≡ s.cpu.pc →
         Reaches 2 (load_zero_indexed z i) s image.now list.old result.value result.count
         state.new list.new) }
@@ -279,9 +281,9 @@ fn from_absolute(
     state: &mut [u8; 16],
     w: Wiring,
     image: &[u8],
-    list: &mut [u8; 56],
+    list: &mut [u8],
 ) -> Reached<u8>
-    requires { w.size ≤ length image.now }
+    requires { Ready w (length image.now) (length list.old) }
     ensures { (result.count ≤ 7) × ((s : State) → Fetched (λ v. high) s state.old image.now w pc →
         Reaches 3 (get Data (address low high)) s image.now list.old result.value result.count
         state.new list.new) }
@@ -300,9 +302,9 @@ fn from_indirect_x(
     state: &mut [u8; 16],
     w: Wiring,
     image: &[u8],
-    list: &mut [u8; 56],
+    list: &mut [u8],
 ) -> Reached<u8>
-    requires { w.size ≤ length image.now }
+    requires { Ready w (length image.now) (length list.old) }
     ensures { (result.count ≤ 7) × ((s : State) → Stands execution s state.old w → pc ≡ s.cpu.pc →
         Reaches 2 (load s.cpu (IndirectX z)) s image.now list.old result.value result.count
         state.new list.new) }
@@ -324,9 +326,9 @@ fn from_indirect_y(
     w: Wiring,
     there: Wiring,
     image: &[u8],
-    list: &mut [u8; 56],
+    list: &mut [u8],
 ) -> Reached<u8>
-    requires { (w.size ≤ length image.now) × (there.size ≤ length image.now) }
+    requires { Ready w (length image.now) (length list.old) × Ready there (length image.now) (length list.old) }
     ensures { (result.count ≤ 7) × ((s : State) (κ : Bank) → Stands execution s state.old w → pc ≡ s.cpu.pc →
         Stands κ s state.old there →
         Reaches 2 (load_through κ z s.cpu.y) s image.now list.old result.value result.count
@@ -344,9 +346,9 @@ pub(crate) fn load(
     state: &mut [u8; 16],
     w: Wiring,
     image: &[u8],
-    list: &mut [u8; 56],
+    list: &mut [u8],
 ) -> Reached<u8>
-    requires { w.size ≤ length image.now }
+    requires { Ready w (length image.now) (length list.old) }
     ensures { (result.count ≤ 7) × ((s : State) → Fetched (high_in m) s state.old image.now w pc →
         Reaches (mode_size m) (load (past (mode_size m) s.cpu) m) s image.now list.old result.value result.count
         state.new list.new) }
@@ -383,9 +385,9 @@ pub(crate) fn place(
     state: &mut [u8; 16],
     w: Wiring,
     image: &[u8],
-    list: &mut [u8; 56],
+    list: &mut [u8],
 ) -> Reached<u16>
-    requires { w.size ≤ length image.now }
+    requires { Ready w (length image.now) (length list.old) }
     ensures { ((result.count ≤ 5) × (result.count ≤ mode_size m + place_most m))
         × ((s : State) → Fetched (high_in m) s state.old image.now w pc →
         Reaches (mode_size m) (place (past (mode_size m) s.cpu) m) s image.now list.old result.value result.count

@@ -12,7 +12,7 @@ ghost use Rattle.rules.specs.Bus.{world, images, look};
 ghost use Rattle.rules.specs.Record.{record_of};
 ghost use Rattle.rules.specs.Operations.{register_of, taken, perform};
 ghost use Rattle.rules.specs.Flags.{flags_of};
-ghost use Rattle.wiring.specs.Wiring.{Wired, Stands};
+ghost use Rattle.wiring.specs.Wiring.{Wired, Stands, Ready};
 ghost use Rattle.laws.specs.Goes.{Goes, Does};
 ghost use Rattle.laws.specs.Sizes.{size_in};
 ghost use Rattle.processor.specs.Begun.{short};
@@ -45,9 +45,9 @@ fn store(
     state: &mut [u8; 16],
     w: Wiring,
     image: &mut [u8],
-    list: &mut [u8; 56],
+    list: &mut [u8],
 )
-    requires { (at.count < 7) × (w.size ≤ length image.old) }
+    requires { (at.count < 7) × Ready w (length image.old) (length list.old) }
     ensures { (s : State) → Stands execution s state.old w →
         Does (stored_at o m at.value s.cpu) at.count s image.old list.old (at.count + 1)
         state.new image.new list.new }
@@ -75,9 +75,9 @@ fn rewrite(
     state: &mut [u8; 16],
     w: Wiring,
     image: &mut [u8],
-    list: &mut [u8; 56],
+    list: &mut [u8],
 )
-    requires { (k < 6) × (w.size ≤ length image.old) }
+    requires { (k < 6) × Ready w (length image.old) (length list.old) }
     ensures { (s : State) → Stands execution s state.old w →
         v ≡ look images (world s.bus image.old) execution a →
         Does (rewritten o a v s.cpu) k s image.old list.old (k + 2) state.new image.new
@@ -97,9 +97,9 @@ fn change(
     state: &mut [u8; 16],
     w: Wiring,
     image: &mut [u8],
-    list: &mut [u8; 56],
+    list: &mut [u8],
 )
-    requires { (at.count < 5) × (w.size ≤ length image.old) }
+    requires { (at.count < 5) × Ready w (length image.old) (length list.old) }
     ensures { (s : State) → Stands execution s state.old w →
         Does (changed_at o at.value s.cpu) at.count s image.old list.old (at.count + 3)
         state.new image.new list.new }
@@ -119,9 +119,9 @@ fn lay(
     state: &mut [u8; 16],
     w: Wiring,
     image: &mut [u8],
-    list: &mut [u8; 56],
+    list: &mut [u8],
 ) -> usize
-    requires { (Lays i m × (short i ≡ true)) × (w.size ≤ length image.old) }
+    requires { (Lays i m × (short i ≡ true)) × Ready w (length image.old) (length list.old) }
     ensures { (result ≤ 7) × ((s : State) → Fetched (high_in m) s state.old image.old w pc →
         Does (rest i s.cpu) 2 s image.old list.old result state.new
         image.new list.new) }
@@ -180,9 +180,9 @@ fn branch(
     state: &mut [u8; 16],
     w: Wiring,
     image: &[u8],
-    list: &mut [u8; 56],
+    list: &mut [u8],
 ) -> usize
-    requires { w.size ≤ length image.now }
+    requires { Ready w (length image.now) (length list.old) }
     ensures { (result ≤ 7) × ((s : State) → Stands execution s state.old w → pc ≡ s.cpu.pc →
         Does (perform (Branch t o) (past 2 s.cpu)) 2 s image.now list.old result state.new
         image.now list.new) }
@@ -218,9 +218,9 @@ fn read_into(
     state: &mut [u8; 16],
     w: Wiring,
     image: &[u8],
-    list: &mut [u8; 56],
+    list: &mut [u8],
 ) -> usize
-    requires { w.size ≤ length image.now }
+    requires { Ready w (length image.now) (length list.old) }
     ensures { (result ≤ 7) × ((s : State) → Fetched (high_in m) s state.old image.now w pc →
         Does (rest (Read o m) s.cpu) 2 s image.now list.old result state.new image.now
         list.new) }
@@ -269,9 +269,9 @@ fn at_stack(
     state: &mut [u8; 16],
     w: Wiring,
     image: &mut [u8],
-    list: &mut [u8; 56],
+    list: &mut [u8],
 ) -> usize
-    requires { w.size ≤ length image.old }
+    requires { Ready w (length image.old) (length list.old) }
     ensures { (result ≤ 7) × ((s : State) → Stands execution s state.old w → pc ≡ s.cpu.pc →
         Does (rest (AtStack o) s.cpu) 2 s image.old list.old result state.new image.new
         list.new) }
@@ -280,7 +280,8 @@ fn at_stack(
     stacking::at_stack(o, state, w, image, list)
 }
 
-fn jump(low: u8, high: u8, pc: u16, state: &mut [u8; 16], w: Wiring, list: &mut [u8; 56])
+fn jump(low: u8, high: u8, pc: u16, state: &mut [u8; 16], w: Wiring, list: &mut [u8])
+    requires { 56 ≤ length list.old }
     ensures { (s : State) (i : List ℕ) → Fetched (λ v. high) s state.old i w pc →
         Does (rest (Jump low high) s.cpu) 2 s i list.old 3 state.new i list.new }
 {
@@ -295,9 +296,9 @@ fn jump_indirect(
     state: &mut [u8; 16],
     w: Wiring,
     image: &[u8],
-    list: &mut [u8; 56],
+    list: &mut [u8],
 )
-    requires { w.size ≤ length image.now }
+    requires { Ready w (length image.now) (length list.old) }
     ensures { (s : State) → Fetched (λ v. high) s state.old image.now w pc →
         Does (rest (JumpIndirect low high) s.cpu) 2 s image.now list.old 5 state.new
         image.now list.new }
@@ -314,9 +315,9 @@ fn perform(
     state: &mut [u8; 16],
     w: Wiring,
     image: &mut [u8],
-    list: &mut [u8; 56],
+    list: &mut [u8],
 ) -> usize
-    requires { (short i ≡ true) × (w.size ≤ length image.old) }
+    requires { (short i ≡ true) × Ready w (length image.old) (length list.old) }
     ensures { (result ≤ 7) × ((s : State) → Fetched (high_of i) s state.old image.old w pc →
         Does (rest i s.cpu) 2 s image.old list.old result state.new
         image.new list.new) }
@@ -421,7 +422,8 @@ fn second_for(i: Instruction) -> Purpose
 }
 
 // The opcode and the byte behind it are listed.
-fn begin(i: Instruction, f: Bytes, pc: u16, w: Wiring, list: &mut [u8; 56])
+fn begin(i: Instruction, f: Bytes, pc: u16, w: Wiring, list: &mut [u8])
+    requires { 56 ≤ length list.old }
     ensures { (s : State) (m : List ℕ) → Wired execution w s.bus → pc ≡ s.cpu.pc → Found f s m →
         Goes (begun (size_in 2 i) s.cpu.pc) 0 s.bus m list.old f.low 2 s.bus m list.new }
 {
@@ -431,8 +433,8 @@ fn begin(i: Instruction, f: Bytes, pc: u16, w: Wiring, list: &mut [u8; 56])
 }
 
 // The instruction at PC. Answers the accesses made, or 0 where the opcode is undefined: then nothing has changed.
-pub fn instruction(pins: u8, state: &mut [u8; 16], image: &mut [u8], list: &mut [u8; 56]) -> usize
-    requires { (65536 ≤ length image.old) × (length image.old % 65536 ≡ 0) }
+pub fn instruction(pins: u8, state: &mut [u8; 16], image: &mut [u8], list: &mut [u8]) -> usize
+    requires { (56 ≤ length list.old) × ((65536 ≤ length image.old) × (length image.old % 65536 ≡ 0)) }
     ensures { (result ≤ 7) × ((s : State) → Begins s state.old pins (length image.old) →
         Executed s image.old list.old result state.new image.new list.new) }
 {

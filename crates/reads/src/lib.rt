@@ -9,7 +9,7 @@ ghost use Rattle.rules.specs.declared.State.{State};
 ghost use Rattle.rules.specs.Cycles.{Bank, execution, done, read};
 ghost use Rattle.rules.specs.Bus.{world, images, look};
 ghost use Rattle.rules.specs.Record.{record_of};
-ghost use Rattle.wiring.specs.Wiring.{Stands};
+ghost use Rattle.wiring.specs.Wiring.{Stands, Ready};
 ghost use Rattle.laws.specs.Goes.{Goes};
 ghost use Rattle.reads.specs.Held.{low_held};
 ghost use Rattle.rules.specs.Addressing.{word_at};
@@ -59,11 +59,11 @@ pub fn read(
     state: &[u8; 16],
     w: Wiring,
     image: &[u8],
-    list: &mut [u8; 56],
+    list: &mut [u8],
     k: usize,
     a: u16,
 ) -> u8
-    requires { (k < 7) × (w.size ≤ length image.now) }
+    requires { (k < 7) × Ready w (length image.now) (length list.old) }
     ensures { (s : State) (κ : Bank) → Stands κ s state.now w →
         Goes (read purpose κ a done) k s.bus image.now list.old result (k + 1) s.bus image.now
         list.new }
@@ -79,12 +79,12 @@ pub fn word_at(
     state: &[u8; 16],
     w: Wiring,
     image: &[u8],
-    list: &mut [u8; 56],
+    list: &mut [u8],
     k: usize,
     one: u16,
     two: u16,
 ) -> u16
-    requires { (k < 6) × (w.size ≤ length image.now) }
+    requires { (k < 6) × Ready w (length image.now) (length list.old) }
     ensures { (t : State) → Stands execution t state.now w →
         Goes (word_at purpose one two) k t.bus image.now list.old result (k + 2) t.bus image.now
         list.new }

@@ -6,7 +6,7 @@ use borrow.Author.Tests.{eq-eqb, ne_eqb}
 use lib.ListN.{length, drop}
 use Rattle.std.specs.Prelude.{Err}
 use Rattle.rules.specs.declared.Refusal.{Refusal}
-use Rattle.rules.specs.declared.Refusal.TheVariants.{RecordLength, ScriptLength}
+use Rattle.rules.specs.declared.Refusal.TheVariants.{ScriptLength}
 use Rattle.rules.specs.Answers.{ended}
 use Rattle.rules.specs.Bus.{images}
 use Rattle.rules.specs.Run.{start, stopped, run_tests, play, run_of}
@@ -18,10 +18,6 @@ module _ (r m l s : List ℕ) where
   pub run_unfit : (e : Refusal) → Err e ≡ fit_of r m → left (ended 0 0 (Err e)) r m l ≡ run_of images r m s l
   unfolding run_of
   run_unfit e h = sym (unfit r m (drop 3 (run_tests images r m s)) (stopped (start r m l)) _ e h)
-
-  pub short : (length r ≡ 16 → ⊥) → left (ended 0 0 (Err RecordLength)) r m l ≡ run_of images r m s l
-  unfolding run_of
-  short h = rw (ne_eqb (length r) 16 h)
 
   pub odd : Fits r m → (length s % 2 ≡ 0 → ⊥) → left (ended 0 0 (Err ScriptLength)) r m l ≡ run_of images r m s l
   unfolding run_of

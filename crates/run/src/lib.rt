@@ -75,14 +75,12 @@ pub fn run(
     ensures { left (result, tally.new) state.new image.new accesses.new
         ≡ worded tallied (run_of images state.old image.old script.now accesses.old) }
 {
-    let Some(bytes) = state.as_mut_array::<16>() else {
-        return refused(tally, Refusal::RecordLength);
-    };
-    if let Err(e) = checks::fit(bytes, image) {
+    if let Err(e) = checks::fit(state, image) {
         return refused(tally, e);
     }
     if script.len() % 2 != 0 {
         return refused(tally, Refusal::ScriptLength);
     }
+    let bytes = state.as_mut_array::<16>().unwrap();
     play(bytes, image, script, accesses, tally)
 }

@@ -6,7 +6,7 @@ ghost use Rattle.std.specs.Prelude.{◌<◌, ◌≤◌, length};
 ghost use Rattle.rules.specs.declared.State.{State};
 ghost use Rattle.rules.specs.Cycles.{execution};
 ghost use Rattle.rules.specs.Operations.{with_pc, enter, brk};
-ghost use Rattle.wiring.specs.Wiring.{Stands};
+ghost use Rattle.wiring.specs.Wiring.{Stands, Ready};
 ghost use Rattle.laws.specs.Goes.{Goes, Does};
 ghost use Rattle.sequence.specs.Pushes.{push_three};
 
@@ -18,12 +18,12 @@ pub fn push_three(
     state: &[u8; 16],
     w: Wiring,
     image: &mut [u8],
-    list: &mut [u8; 56],
+    list: &mut [u8],
     pc: u16,
     s: u8,
     p: u8,
 )
-    requires { w.size ≤ length image.old }
+    requires { Ready w (length image.old) (length list.old) }
     ensures { (t : State) → Stands execution t state.now w →
         Goes (push_three pc s p) 2 t.bus image.old list.old tt 5 t.bus
         image.new list.new }
@@ -33,8 +33,8 @@ pub fn push_three(
 }
 
 // How BRK, an interrupt and a reset end: S is lower by 3, "read the vector", "set I".
-pub fn enter(vector: u16, state: &mut [u8; 16], w: Wiring, image: &[u8], list: &mut [u8; 56])
-    requires { (vector < 65535) × (w.size ≤ length image.now) }
+pub fn enter(vector: u16, state: &mut [u8; 16], w: Wiring, image: &[u8], list: &mut [u8])
+    requires { (vector < 65535) × Ready w (length image.now) (length list.old) }
     ensures { (s : State) → Stands execution s state.old w →
         Does (enter vector s.cpu) 5 s image.now list.old 7 state.new image.now
         list.new }
@@ -57,8 +57,8 @@ pub fn enter(vector: u16, state: &mut [u8; 16], w: Wiring, image: &[u8], list: &
 }
 
 // "BRK: PC+1, push PC+2 high, low, P with bit 4 set, FFFE, FFFF; I set." PC+1 was read, and is pc here.
-pub fn brk(pc: u16, state: &mut [u8; 16], w: Wiring, image: &mut [u8], list: &mut [u8; 56])
-    requires { w.size ≤ length image.old }
+pub fn brk(pc: u16, state: &mut [u8; 16], w: Wiring, image: &mut [u8], list: &mut [u8])
+    requires { Ready w (length image.old) (length list.old) }
     ensures { (s : State) → Stands execution s state.old w →
         Does (brk (with_pc pc s.cpu)) 2 s image.old list.old 7 state.new image.new
         list.new }

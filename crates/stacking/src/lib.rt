@@ -10,7 +10,7 @@ ghost use Rattle.rules.specs.Basics.{sum8};
 ghost use Rattle.rules.specs.Cycles.{execution};
 ghost use Rattle.rules.specs.Operations.{with_s, with_pc, stack, push, rts, rti, at_stack};
 ghost use Rattle.state.specs.Makes.{Makes};
-ghost use Rattle.wiring.specs.Wiring.{Stands};
+ghost use Rattle.wiring.specs.Wiring.{Stands, Ready};
 ghost use Rattle.laws.specs.Goes.{Goes, Does};
 ghost use Rattle.rules.specs.Addressing.{word_at};
 ghost use Rattle.stacking.specs.Pulled.{pulled_at};
@@ -19,8 +19,8 @@ use rules::{Purpose, Stacking};
 use wiring::Wiring;
 
 // "Push: PC+1, write at S."
-fn push(v: u8, state: &mut [u8; 16], w: Wiring, image: &mut [u8], list: &mut [u8; 56])
-    requires { w.size ≤ length image.old }
+fn push(v: u8, state: &mut [u8; 16], w: Wiring, image: &mut [u8], list: &mut [u8])
+    requires { Ready w (length image.old) (length list.old) }
     ensures { (s : State) → Stands execution s state.old w →
         Does (push v s.cpu) 2 s image.old list.old 3 state.new
         image.new list.new }
@@ -38,8 +38,8 @@ fn up(k: u8, s: u8) -> u8
 }
 
 // "read at S, read at S+1"
-fn pulled(state: &[u8; 16], w: Wiring, image: &[u8], list: &mut [u8; 56], s: u8) -> u8
-    requires { w.size ≤ length image.now }
+fn pulled(state: &[u8; 16], w: Wiring, image: &[u8], list: &mut [u8], s: u8) -> u8
+    requires { Ready w (length image.now) (length list.old) }
     ensures { (t : State) → Stands execution t state.now w →
         Goes (pulled_at s) 2 t.bus image.now list.old result 4 t.bus image.now list.new }
 {
@@ -57,8 +57,8 @@ fn pulled(state: &[u8; 16], w: Wiring, image: &[u8], list: &mut [u8; 56], s: u8)
 }
 
 // "PLP, RTI keep 5 set, 4 clear"
-fn plp(state: &mut [u8; 16], w: Wiring, image: &[u8], list: &mut [u8; 56])
-    requires { w.size ≤ length image.now }
+fn plp(state: &mut [u8; 16], w: Wiring, image: &[u8], list: &mut [u8])
+    requires { Ready w (length image.now) (length list.old) }
     ensures { (s : State) → Stands execution s state.old w →
         Does (at_stack Plp s.cpu) 2 s image.now list.old 4 state.new image.now
         list.new }
@@ -69,8 +69,8 @@ fn plp(state: &mut [u8; 16], w: Wiring, image: &[u8], list: &mut [u8; 56])
     state::set_flags(state, flags::flags_of(p));
 }
 
-fn pla(state: &mut [u8; 16], w: Wiring, image: &[u8], list: &mut [u8; 56])
-    requires { w.size ≤ length image.now }
+fn pla(state: &mut [u8; 16], w: Wiring, image: &[u8], list: &mut [u8])
+    requires { Ready w (length image.now) (length list.old) }
     ensures { (s : State) → Stands execution s state.old w →
         Does (at_stack Pla s.cpu) 2 s image.now list.old 4 state.new image.now
         list.new }
@@ -90,15 +90,8 @@ fn set_s_pc(state: &mut [u8; 16], s: u8, pc: u16)
 }
 
 // Two bytes from S + 1 and S + 2, as an address.
-fn word_above(
-    state: &[u8; 16],
-    w: Wiring,
-    image: &[u8],
-    list: &mut [u8; 56],
-    k: usize,
-    s: u8,
-) -> u16
-    requires { (k < 6) × (w.size ≤ length image.now) }
+fn word_above(state: &[u8; 16], w: Wiring, image: &[u8], list: &mut [u8], k: usize, s: u8) -> u16
+    requires { (k < 6) × Ready w (length image.now) (length list.old) }
     ensures { (t : State) → Stands execution t state.now w →
         Goes (word_at Stack (stack (sum8 s 1)) (stack (sum8 s 2))) k t.bus image.now list.old result (k + 2) t.bus
         image.now list.new }
@@ -109,8 +102,8 @@ fn word_above(
 }
 
 // "RTS: PC+1, read at S, pull low, high, read there; PC is one more."
-fn rts(state: &mut [u8; 16], w: Wiring, image: &[u8], list: &mut [u8; 56])
-    requires { w.size ≤ length image.now }
+fn rts(state: &mut [u8; 16], w: Wiring, image: &[u8], list: &mut [u8])
+    requires { Ready w (length image.now) (length list.old) }
     ensures { (s : State) → Stands execution s state.old w →
         Does (rts s.cpu) 2 s image.now list.old 6 state.new image.now list.new }
 {
@@ -130,8 +123,8 @@ fn rts(state: &mut [u8; 16], w: Wiring, image: &[u8], list: &mut [u8; 56])
 }
 
 // "RTI: PC+1, read at S, pull P, low, high."
-fn rti(state: &mut [u8; 16], w: Wiring, image: &[u8], list: &mut [u8; 56])
-    requires { w.size ≤ length image.now }
+fn rti(state: &mut [u8; 16], w: Wiring, image: &[u8], list: &mut [u8])
+    requires { Ready w (length image.now) (length list.old) }
     ensures { (s : State) → Stands execution s state.old w →
         Does (rti s.cpu) 2 s image.now list.old 6 state.new image.now list.new }
 {
@@ -150,9 +143,9 @@ pub fn at_stack(
     state: &mut [u8; 16],
     w: Wiring,
     image: &mut [u8],
-    list: &mut [u8; 56],
+    list: &mut [u8],
 ) -> usize
-    requires { w.size ≤ length image.old }
+    requires { Ready w (length image.old) (length list.old) }
     ensures { (result ≤ 7) × ((s : State) → Stands execution s state.old w →
         Does (at_stack o s.cpu) 2 s image.old list.old result state.new image.new
         list.new) }

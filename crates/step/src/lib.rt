@@ -92,8 +92,8 @@ fn reset_registers(state: &mut [u8; 16])
 }
 
 // RES, counted.
-fn reset(pins: u8, state: &mut [u8; 16], image: &[u8], list: &mut [u8; 56])
-    requires { Sized (length image.now) }
+fn reset(pins: u8, state: &mut [u8; 16], image: &[u8], list: &mut [u8])
+    requires { Sized (length image.now) (length list.old) }
     ensures { (s : State) → Begins s state.old pins (length image.now) →
         Counted (reset s.cpu) (moved s.cpu (reset_bus s.bus) s) image.now list.old 7 state.new
         image.now list.new }
@@ -105,8 +105,8 @@ fn reset(pins: u8, state: &mut [u8; 16], image: &[u8], list: &mut [u8; 56])
 }
 
 // IRQ or NMI, counted.
-fn interrupt(vector: u16, pins: u8, state: &mut [u8; 16], image: &mut [u8], list: &mut [u8; 56])
-    requires { (vector < 65535) × Sized (length image.old) }
+fn interrupt(vector: u16, pins: u8, state: &mut [u8; 16], image: &mut [u8], list: &mut [u8])
+    requires { (vector < 65535) × Sized (length image.old) (length list.old) }
     ensures { (s : State) → Begins s state.old pins (length image.old) →
         Counted (interrupt vector s.cpu) s image.old list.old 7 state.new image.new
         list.new }
@@ -117,8 +117,8 @@ fn interrupt(vector: u16, pins: u8, state: &mut [u8; 16], image: &mut [u8], list
 }
 
 // The instruction at PC, counted. Answers its accesses, or 0 where the opcode is undefined.
-fn execute(pins: u8, state: &mut [u8; 16], image: &mut [u8], list: &mut [u8; 56]) -> usize
-    requires { Sized (length image.old) }
+fn execute(pins: u8, state: &mut [u8; 16], image: &mut [u8], list: &mut [u8]) -> usize
+    requires { Sized (length image.old) (length list.old) }
     ensures { (result ≤ 7) × ((s : State) → Begins s state.old pins (length image.old) →
         Taken Execute s image.old list.old result state.new image.new list.new) }
 {
@@ -131,14 +131,8 @@ fn execute(pins: u8, state: &mut [u8; 16], image: &mut [u8], list: &mut [u8; 56]
 }
 
 // What a step takes. Answers the accesses made, or 0 where it is an instruction whose opcode is undefined.
-fn take(
-    event: Event,
-    pins: u8,
-    state: &mut [u8; 16],
-    image: &mut [u8],
-    list: &mut [u8; 56],
-) -> usize
-    requires { Sized (length image.old) }
+fn take(event: Event, pins: u8, state: &mut [u8; 16], image: &mut [u8], list: &mut [u8]) -> usize
+    requires { Sized (length image.old) (length list.old) }
     ensures { (result ≤ 7) × ((s : State) → Begins s state.old pins (length image.old) →
         Taken event s image.old list.old result state.new image.new list.new) }
 {
@@ -161,7 +155,7 @@ fn take(
 
 // "6 adds PC and opcode"
 fn undefined(pins: u8, state: &[u8; 16], image: &[u8]) -> u64
-    requires { Sized (length image.now) }
+    requires { Sized (length image.now) 56 }
     ensures { (s : State) → Begins s state.now pins (length image.now) →
         result ≡ refusal_word (Undefined s.cpu.pc (opcode_of images s image.now)) }
 {
@@ -173,7 +167,7 @@ fn undefined(pins: u8, state: &[u8; 16], image: &[u8]) -> u64
 
 // The word of a step that took what it takes. "Every step stores the NMI level".
 fn answer(lines: u8, pins: u8, count: usize, state: &mut [u8; 16], image: &[u8]) -> u64
-    requires { (count ≤ 7) × Sized (length image.now) }
+    requires { (count ≤ 7) × Sized (length image.now) 56 }
     ensures { (e : Event) (s : State) (i l l' : List ℕ) → Begins s (record_of s) pins (length i) → 56 ≤ length l →
         Taken e s i l count state.old image.now l' →
         left result state.new image.now l' ≡ worded step_word (advanced e lines s (record_of s) i l) }
@@ -196,13 +190,11 @@ pub fn quiet(state: &mut [u8; 16], image: &mut [u8], list: &mut [u8]) -> u64
     ensures { left result state.new image.new list.new
         ≡ worded step_word (step images state.old image.old 0 0 list.old) }
 {
-    match list.first_chunk_mut::<56>() {
-        None => words::refusal_word(Refusal::Room),
-        Some(room) => {
-            let count = execute(0, state, image, room);
-            answer(0, 0, count, state, image)
-        }
+    if list.len() < 56 {
+        return words::refusal_word(Refusal::Room);
     }
+    let count = execute(0, state, image, list);
+    answer(0, 0, count, state, image)
 }
 
 // The word of any step of a record and an image that fit: 4 to 6 in order; "no byte moves".
@@ -214,12 +206,10 @@ pub fn step(state: &mut [u8; 16], image: &mut [u8], lines: u8, pins: u8, list: &
     if !checks::lines_fit(state[0], lines, pins) {
         return words::refusal_word(Refusal::Lines);
     }
-    match list.first_chunk_mut::<56>() {
-        None => words::refusal_word(Refusal::Room),
-        Some(room) => {
-            let event = event_in(lines, state);
-            let count = take(event, pins, state, image, room);
-            answer(lines, pins, count, state, image)
-        }
+    if list.len() < 56 {
+        return words::refusal_word(Refusal::Room);
     }
+    let event = event_in(lines, state);
+    let count = take(event, pins, state, image, list);
+    answer(lines, pins, count, state, image)
 }

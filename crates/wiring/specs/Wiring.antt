@@ -1,5 +1,5 @@
 -- What a step knows of its bus before its first access, and when the sixteen bytes stand for a state.
-use Rattle.std.specs.Prelude.{ℕ, ◌*◌, ◌/◌, ◌%◌, ◌^◌, ◌<◌, ◌≡◌, true, List}
+use Rattle.std.specs.Prelude.{ℕ, ◌*◌, ◌/◌, ◌%◌, ◌^◌, ◌<◌, ◌≤◌, ◌≡◌, true, List}
 use Rattle.rules.specs.declared.Bus.{Bus}
 use Rattle.rules.specs.declared.State.{State}
 use Rattle.rules.specs.Basics.{when◌then◌else◌}
@@ -45,3 +45,8 @@ pub record Wired (κ : Bank) (w : Wiring) (u : Bus) : Type 0 where
 pub record Stands (κ : Bank) (s : State) (r : List ℕ) (w : Wiring) : Type 0 where
   pub bytes : r ≡ record_of s
   pub wired : Wired κ w s.bus
+
+-- the lengths that an access needs: an image that holds every bank, and room for a step
+pub record Ready (w : Wiring) (i l : ℕ) : Type 0 where
+  pub image : w.size ≤ i
+  pub room : 56 ≤ l

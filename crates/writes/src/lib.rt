@@ -10,7 +10,7 @@ ghost use Rattle.rules.specs.declared.Purpose.TheVariants.{Stack};
 ghost use Rattle.rules.specs.Operations.{push_pc};
 ghost use Rattle.rules.specs.Bus.{narrow};
 ghost use Rattle.rules.specs.Record.{record_of};
-ghost use Rattle.wiring.specs.Wiring.{Stands};
+ghost use Rattle.wiring.specs.Wiring.{Stands, Ready};
 ghost use Rattle.laws.specs.Goes.{Goes, Writes};
 ghost use Rattle.laws.specs.States.{moved};
 ghost use Rattle.writes.specs.Left.{registered, put_at};
@@ -57,12 +57,12 @@ pub fn write(
     state: &mut [u8; 16],
     w: Wiring,
     image: &mut [u8],
-    list: &mut [u8; 56],
+    list: &mut [u8],
     k: usize,
     a: u16,
     v: u8,
 )
-    requires { (k < 7) × (w.size ≤ length image.old) }
+    requires { (k < 7) × Ready w (length image.old) (length list.old) }
     ensures { (s : State) (κ : Bank) → Stands κ s state.old w →
         Writes purpose κ a v k s image.old list.old state.new image.new list.new }
 {
@@ -79,16 +79,8 @@ pub fn write(
 }
 
 // One write cycle at the stack, where no part has a register.
-pub fn push(
-    state: &[u8; 16],
-    w: Wiring,
-    image: &mut [u8],
-    list: &mut [u8; 56],
-    k: usize,
-    s: u8,
-    v: u8,
-)
-    requires { (k < 7) × (w.size ≤ length image.old) }
+pub fn push(state: &[u8; 16], w: Wiring, image: &mut [u8], list: &mut [u8], k: usize, s: u8, v: u8)
+    requires { (k < 7) × Ready w (length image.old) (length list.old) }
     ensures { (t : State) (κ : Bank) → Stands κ t state.now w →
         Goes {A = Unit {0}} (write Stack κ (256 + s) v (done tt)) k t.bus image.old list.old tt (k + 1) t.bus
         image.new list.new }
@@ -103,12 +95,12 @@ pub fn push_pc(
     state: &[u8; 16],
     w: Wiring,
     image: &mut [u8],
-    list: &mut [u8; 56],
+    list: &mut [u8],
     k: usize,
     pc: u16,
     s: u8,
 )
-    requires { (k < 6) × (w.size ≤ length image.old) }
+    requires { (k < 6) × Ready w (length image.old) (length list.old) }
     ensures { (t : State) → Stands execution t state.now w →
         Goes (push_pc pc s) k t.bus image.old list.old tt (k + 2) t.bus image.new
         list.new }

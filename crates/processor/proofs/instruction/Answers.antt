@@ -25,7 +25,7 @@ perform-requires c =
     let is = c.decode-i.ensures in
     let sure = defined_is f.opcode f.low f.high _ is c.in_default.not-Undefined in (
       rw is (short_is f.opcode _ _ (omega (arith, c.fetch-f.type_inv)) ∙ sure),
-      omega (arith, c.wire-w.ensures.size),
+      record { image = omega (arith, c.wire-w.ensures.size); room = rw c.begin.auto.list c.requires.0 },
     )
 
 pub returns : goal.returns
