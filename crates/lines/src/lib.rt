@@ -67,7 +67,8 @@ fn word_line(name: u32, shape: Shape, v: u16) -> Result<Line, Fault>
     ensures { result ≡ word_line name shape v }
 {
     let opcode = mnemonics::opcode_of(name, shape).ok_or(Fault::NoSuchMode)?;
-    Ok(Line::Three(opcode, (v % 256) as u8, (v / 256) as u8))
+    let [low, high] = v.to_le_bytes();
+    Ok(Line::Three(opcode, low, high))
 }
 
 // "A value under 256 takes the zero-page form where the operation has one; an address written with four digits alone takes the absolute
@@ -90,9 +91,10 @@ fn branch_line(opcode: u8, address: u16, v: u16) -> Result<Line, Fault>
 {
     let offset = v.wrapping_sub(address.wrapping_add(2));
     if offset < 128 || 65408 <= offset {
-        return Ok(Line::Two(opcode, (offset % 256) as u8));
+        Ok(Line::Two(opcode, (offset % 256) as u8))
+    } else {
+        Err(Fault::BranchTooFar)
     }
-    Err(Fault::BranchTooFar)
 }
 
 // A sum alone: where a branch goes, or an address.
