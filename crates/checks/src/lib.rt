@@ -26,10 +26,10 @@ pub fn lines_fit(part: u8, lines: u8, pins: u8) -> bool
 pub fn fit(state: &[u8], image: &[u8]) -> Result<(), Refusal>
     ensures { result ≡ fit_of state.now image.now }
 {
-    if state.len() != 16 {
+    let Some(record) = state.as_array() else {
         return Err(Refusal::RecordLength);
-    }
-    if !formed::well_formed(state) {
+    };
+    if !formed::well_formed(record) {
         return Err(Refusal::Malformed);
     }
     if !image_fits(state[0], image.len()) {

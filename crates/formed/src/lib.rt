@@ -2,7 +2,7 @@
 
 #![tactic(auto)]
 
-ghost use Rattle.std.specs.Prelude.{◌≡◌, length};
+ghost use Rattle.std.specs.Prelude.{◌≡◌};
 ghost use Rattle.rules.specs.Record.{well_formed, flags_fit};
 ghost use Rattle.formed.specs.Rest.{rest_fits};
 
@@ -18,24 +18,16 @@ fn flags_fit(p: u8) -> bool
 fn rest_fits(part: u8, first: u8, second: u8, level: u8, pages: u8) -> bool
     ensures { result ≡ rest_fits part first second level pages }
 {
-    if part == 2 {
-        return first as u16 + second as u16 + (level / 2) as u16 == 0;
+    match part {
+        2 => first as u16 + second as u16 + (level / 2) as u16 == 0,
+        8 => level == 0,
+        9 => (first / 16) as u16 + (second / 16) as u16 + (level / 2) as u16 + pages as u16 == 0,
+        _ => false,
     }
-    if part == 8 {
-        return level == 0;
-    }
-    if part == 9 {
-        return (first / 16) as u16 + (second / 16) as u16 + (level / 2) as u16 + pages as u16 == 0;
-    }
-    false
 }
 
-pub fn well_formed(state: &[u8]) -> bool
-    requires { length state.now ≡ 16 }
+pub fn well_formed(state: &[u8; 16]) -> bool
     ensures { result ≡ well_formed state.now }
 {
-    if flags_fit(state[5]) {
-        return rest_fits(state[0], state[8], state[9], state[10], state[11]);
-    }
-    false
+    flags_fit(state[5]) && rest_fits(state[0], state[8], state[9], state[10], state[11])
 }

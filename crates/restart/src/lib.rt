@@ -14,11 +14,12 @@ fn restart(file: &[u8]) -> Result<Found, Refusal>
     ensures { result ≡ restart file.now }
 {
     let size = file.len();
-    if size < 16 || size > 65536 {
+    if !(16..=65536).contains(&size) {
         return Err(Refusal::FileLength);
     }
     let at = size / 16 * 16 - 16;
-    if !formed::well_formed(&file[at..at + 16]) {
+    let record = file[at..].first_chunk().unwrap();
+    if !formed::well_formed(record) {
         return Err(Refusal::Malformed);
     }
     Ok(Found {

@@ -6,5 +6,5 @@ pub returns-then-flags_fit : goal.returns-then-flags_fit
 returns-then-flags_fit c =
     c.rest_fits.ensures ∙ flags_fit_lem _ (sym c.flags_fit.ensures ∙ c.if-flags_fit.true)
 
-pub returns : goal.returns
-returns c = flags_unfit _ (sym c.flags_fit.ensures ∙ c.if-flags_fit.false)
+pub returns-else-flags_fit : goal.returns-else-flags_fit
+returns-else-flags_fit c = c.if-flags_fit.false ∙ flags_unfit _ (sym c.flags_fit.ensures ∙ c.if-flags_fit.false)
