@@ -380,15 +380,13 @@ fn fetch(state: &[u8; 16], w: Wiring, image: &[u8], pc: u16) -> Bytes
     requires { w.size ≤ length image.now }
     ensures { (s : State) → Stands execution s state.now w → pc ≡ s.cpu.pc → Found result s image.now }
 {
-    if w.plain <= pc {
-        if pc < 65534 {
-            let at = w.base + pc as usize;
-            return Bytes {
-                opcode: image[at],
-                low: image[at + 1],
-                high: image[at + 2],
-            };
-        }
+    if w.plain <= pc && pc < 65534 {
+        let at = w.base + pc as usize;
+        return Bytes {
+            opcode: image[at],
+            low: image[at + 1],
+            high: image[at + 2],
+        };
     }
     let one = pc.wrapping_add(1);
     let two = pc.wrapping_add(2);

@@ -21,31 +21,20 @@ ghost use Rattle.step.specs.Parts.{reset_of, counted, Sized, Counted, Taken, adv
 
 use rules::{Event, Numbers, Refusal};
 
-// "IRQ with I = 0"
-fn irq_event(lines: u8, i: bool) -> Event
-    ensures { result ≡ (when irq_of lines && not i then Irq else Execute) }
+// "First that applies: RES; NMI asserted with last level 0; IRQ with I = 0; else the instruction at PC."
+#[tactic(auto, unfolding(rules::specs::Interrupts::event_of))]
+fn event_of(lines: u8, level: u8, i: bool) -> Event
+    ensures { (s : State) → i ≡ s.cpu.p.i → result ≡ event_of lines (level == 1) s.cpu }
 {
-    if lines / 4 % 2 == 1 && !i {
+    if lines % 2 == 1 {
+        Event::Res
+    } else if lines / 2 % 2 == 1 && level != 1 {
+        Event::Nmi
+    } else if lines / 4 % 2 == 1 && !i {
         Event::Irq
     } else {
         Event::Execute
     }
-}
-
-// "First that applies: RES; NMI asserted with last level 0; IRQ with I = 0; else the instruction at PC."
-fn event_of(lines: u8, level: u8, i: bool) -> Event
-    ensures { (s : State) → i ≡ s.cpu.p.i → result ≡ event_of lines (level == 1) s.cpu }
-{
-    if lines / 1 % 2 == 1 {
-        return Event::Res;
-    }
-    if lines / 2 % 2 == 1 {
-        if level == 1 {
-            return irq_event(lines, i);
-        }
-        return Event::Nmi;
-    }
-    irq_event(lines, i)
 }
 
 fn event_in(lines: u8, state: &[u8; 16]) -> Event
