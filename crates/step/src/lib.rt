@@ -2,14 +2,13 @@
 
 #![tactic(auto)]
 
-ghost use Rattle.std.specs.Prelude.{◌≡◌, ℕ, ◌%◌, ◌<◌, ◌≤◌, not, ◌&&◌, List, length, ◌==◌};
+ghost use Rattle.std.specs.Prelude.{◌≡◌, ℕ, ◌%◌, ◌<◌, ◌≤◌, List, length, ◌==◌};
 ghost use Rattle.rules.specs.declared.Event.{Event};
-ghost use Rattle.rules.specs.declared.Event.TheVariants.{Irq, Execute};
+ghost use Rattle.rules.specs.declared.Event.TheVariants.{Execute};
 ghost use Rattle.rules.specs.declared.Refusal.TheVariants.{Undefined};
 ghost use Rattle.rules.specs.declared.State.{State};
-ghost use Rattle.rules.specs.Basics.{when◌then◌else◌};
 ghost use Rattle.rules.specs.Answers.{step_word, refusal_word};
-ghost use Rattle.rules.specs.Interrupts.{irq_of, event_of, interrupt, reset};
+ghost use Rattle.rules.specs.Interrupts.{event_of, interrupt, reset};
 ghost use Rattle.rules.specs.Bus.{images, reset_bus};
 ghost use Rattle.rules.specs.Record.{record_of};
 ghost use Rattle.rules.specs.Step.{opcode_of, step, left, worded};
