@@ -38,8 +38,8 @@ fn put_pages(text: &mut [u8; 11543], reads: &[u64; 256], writes: &[u64; 256]) ->
     ensures { Puts (each 256 (traffic_line reads.now writes.now)) 0 result text.old text.new }
 {
     let mut at = 0;
-    for page in 0..256 {
-        at = put_traffic(text, at, page as u8, reads[page], writes[page]);
+    for (page, (&r, &w)) in reads.iter().zip(writes).enumerate() {
+        at = put_traffic(text, at, page as u8, r, w);
     }
     at
 }

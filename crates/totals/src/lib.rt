@@ -22,7 +22,8 @@ pub fn total_of(reads: &[u64; 256], writes: &[u64; 256]) -> Option<u64>
     }
     let top = high + low / HALF;
     if top < HALF {
-        return Some(top * HALF + low % HALF);
+        Some(top * HALF + low % HALF)
+    } else {
+        None
     }
-    None
 }
