@@ -12,6 +12,7 @@ ghost use Rattle.source.specs.Lines.{size_by, size_with, count_with, text_with, 
 
 use assembly_rules::{Fault, Shape};
 use characters::hex;
+use rules::Instruction;
 
 // What an instruction is listed by.
 #[derive(Clone, Copy)]
@@ -68,13 +69,13 @@ fn byte_at(rest: &[u8], k: usize) -> u8
 fn find(rest: &[u8]) -> Option<Found>
     ensures { result ≡ find_in rest.now }
 {
-    let found = decode::decode(byte_at(rest, 0), byte_at(rest, 1), byte_at(rest, 2));
-    let name = names::name_of(found);
-    let shape = names::shape_of(found);
-    if name != 0 && size_of(shape) <= rest.len() {
-        Some(Found { name, shape })
-    } else {
-        None
+    match decode::decode(byte_at(rest, 0), byte_at(rest, 1), byte_at(rest, 2)) {
+        Instruction::Undefined => None,
+        found => {
+            let name = names::name_of(found);
+            let shape = names::shape_of(found);
+            (size_of(shape) <= rest.len()).then_some(Found { name, shape })
+        }
     }
 }
 
