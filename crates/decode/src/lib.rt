@@ -74,64 +74,48 @@ fn bank_column(a: u8, b: u8) -> u8
     ensures { result ≡ bank_column a b }
 {
     // STA and LDA are rows 4 and 5.
-    if a / 2 == 2 {
-        if b == 4 {
-            return INDIRECT_BANK_Y;
-        }
+    if a / 2 == 2 && b == 4 {
+        INDIRECT_BANK_Y
+    } else {
+        b
     }
-    b
 }
 
+#[tactic(auto, unfolding(crate::specs::Fields::group_one))]
 fn group_one(a: u8, b: u8, m: Mode) -> Instruction
     ensures { result ≡ group_one a b m }
 {
-    if a == 4 {
-        if b == 2 {
-            return Instruction::Undefined;
-        }
-        return Instruction::Store(Storing::Sta, m);
+    match (a, b) {
+        (4, 2) => Instruction::Undefined,
+        (4, _) => Instruction::Store(Storing::Sta, m),
+        _ => Instruction::Read(reading(a), m),
     }
-    Instruction::Read(reading(a), m)
 }
 
 // From here on x is c's upper bit: 1 in group 2, 0 in group 0.
 fn index_column(a: u8, b: u8, x: u8) -> u8
     ensures { result ≡ index_column a b x }
 {
-    if b == 0 {
-        return IMMEDIATE;
+    match (b, x, a / 2) {
+        (0, _, _) => IMMEDIATE,
+        // In group 2 these are STX and LDX.
+        (5, 1, 2) => ZERO_Y,
+        (7, 1, 2) => ABSOLUTE_Y,
+        _ => b,
     }
-    // In group 2 these are STX and LDX.
-    if x == 1 {
-        if a / 2 == 2 {
-            if b == 5 {
-                return ZERO_Y;
-            }
-            if b == 7 {
-                return ABSOLUTE_Y;
-            }
-        }
-    }
-    b
 }
 
 fn comparing(a: u8) -> Reading
     ensures { result ≡ (when eqb a 6 then Cpy else Cpx) }
 {
-    if a == 6 {
-        return Reading::Cpy;
-    }
-    Reading::Cpx
+    if a == 6 { Reading::Cpy } else { Reading::Cpx }
 }
 
 // STX and LDX stand before DEC and INC.
 fn change_row(a: u8) -> u8
     ensures { result ≡ change_row a }
 {
-    if a < 4 {
-        return a;
-    }
-    a - 2
+    if a < 4 { a } else { a - 2 }
 }
 
 fn changing(n: u8) -> Changing
@@ -147,70 +131,38 @@ fn changing(n: u8) -> Changing
     }
 }
 
+#[tactic(auto, unfolding(crate::specs::Fields::with_mode))]
 fn with_mode(a: u8, b: u8, x: u8, m: Mode) -> Instruction
     ensures { result ≡ with_mode a b x m }
 {
-    if a == 4 {
-        if b == 0 {
-            return Instruction::Undefined;
-        }
-        if b == 7 {
-            return Instruction::Undefined;
-        }
-        if x == 1 {
-            return Instruction::Store(Storing::Stx, m);
-        }
-        return Instruction::Store(Storing::Sty, m);
+    match (a, b, x) {
+        (4, 0 | 7, _) => Instruction::Undefined,
+        (4, _, 1) => Instruction::Store(Storing::Stx, m),
+        (4, _, _) => Instruction::Store(Storing::Sty, m),
+        (5, _, 1) => Instruction::Read(Reading::Ldx, m),
+        (5, _, _) => Instruction::Read(Reading::Ldy, m),
+        (_, 0, 1) => Instruction::Undefined,
+        (_, _, 1) => Instruction::Change(changing(change_row(a)), m),
+        (_, 4.., _) => Instruction::Undefined,
+        _ => Instruction::Read(comparing(a), m),
     }
-    if a == 5 {
-        if x == 1 {
-            return Instruction::Read(Reading::Ldx, m);
-        }
-        return Instruction::Read(Reading::Ldy, m);
-    }
-    if x == 1 {
-        if b == 0 {
-            return Instruction::Undefined;
-        }
-        return Instruction::Change(changing(change_row(a)), m);
-    }
-    if b > 3 {
-        return Instruction::Undefined;
-    }
-    Instruction::Read(comparing(a), m)
 }
 
+#[tactic(auto, unfolding(crate::specs::Fields::control))]
 fn control(a: u8, b: u8, low: u8, high: u8) -> Instruction
     ensures { result ≡ control a b low high }
 {
-    if b == 0 {
-        if a == 0 {
-            return Instruction::Brk;
-        }
-        if a == 1 {
-            return Instruction::Jsr(low);
-        }
-        if a == 2 {
-            return Instruction::AtStack(Stacking::Rti);
-        }
-        return Instruction::AtStack(Stacking::Rts);
+    match (b, a) {
+        (0, 0) => Instruction::Brk,
+        (0, 1) => Instruction::Jsr(low),
+        (0, 2) => Instruction::AtStack(Stacking::Rti),
+        (0, _) => Instruction::AtStack(Stacking::Rts),
+        (_, 0) | (4.., _) => Instruction::Undefined,
+        (_, 1) => Instruction::Read(Reading::Bit, mode(b, low, high)),
+        (1, _) => Instruction::Undefined,
+        (_, 2) => Instruction::Jump(low, high),
+        _ => Instruction::JumpIndirect(low, high),
     }
-    if a == 0 {
-        return Instruction::Undefined;
-    }
-    if b > 3 {
-        return Instruction::Undefined;
-    }
-    if a == 1 {
-        return Instruction::Read(Reading::Bit, mode(b, low, high));
-    }
-    if b == 1 {
-        return Instruction::Undefined;
-    }
-    if a == 2 {
-        return Instruction::Jump(low, high);
-    }
-    Instruction::JumpIndirect(low, high)
 }
 
 // 08, 28, .., E8
@@ -288,51 +240,36 @@ fn at_1a(a: u8) -> Instruction
     }
 }
 
+#[tactic(auto, unfolding(crate::specs::Fields::even_group))]
 fn even_group(a: u8, b: u8, x: u8, low: u8, high: u8) -> Instruction
     ensures { result ≡ even_group a b x low high }
 {
-    if b == 4 {
-        if x == 1 {
-            return Instruction::Undefined;
-        }
-        return Instruction::Branch(condition(a), low);
+    match (b, x) {
+        (4, 1) => Instruction::Undefined,
+        (4, _) => Instruction::Branch(condition(a), low),
+        (2, 1) => at_0a(a),
+        (2, _) => at_08(a),
+        (6, 1) => at_1a(a),
+        (6, _) => at_18(a),
+        // Group 2 has operations with a mode in every row, group 0 from row 4 on.
+        _ if x == 1 || a >= 4 => with_mode(a, b, x, mode(index_column(a, b, x), low, high)),
+        _ => control(a, b, low, high),
     }
-    if b == 2 {
-        if x == 1 {
-            return at_0a(a);
-        }
-        return at_08(a);
-    }
-    if b == 6 {
-        if x == 1 {
-            return at_1a(a);
-        }
-        return at_18(a);
-    }
-    // Group 2 has operations with a mode in every row, group 0 from row 4 on.
-    if x == 1 {
-        return with_mode(a, b, x, mode(index_column(a, b, x), low, high));
-    }
-    if a < 4 {
-        return control(a, b, low, high);
-    }
-    with_mode(a, b, x, mode(index_column(a, b, x), low, high))
 }
 
 // c's lower bit is set in groups 1 and 3.
+#[tactic(auto, unfolding(crate::specs::Fields::by_fields))]
 fn by_fields(opcode: u8, low: u8, high: u8) -> Instruction
     ensures { result ≡ by_fields opcode low high }
 {
     let a = opcode / 32;
     let b = opcode / 4 % 8;
     let x = opcode / 2 % 2;
-    if opcode % 2 == 1 {
-        if x == 1 {
-            return Instruction::Undefined;
-        }
-        return group_one(a, b, mode(bank_column(a, b), low, high));
+    match (opcode % 2, x) {
+        (1, 1) => Instruction::Undefined,
+        (1, _) => group_one(a, b, mode(bank_column(a, b), low, high)),
+        _ => even_group(a, b, x, low, high),
     }
-    even_group(a, b, x, low, high)
 }
 
 // "an operation with its addressing mode, and the mode with its operand". What is no operand of the instruction is not looked at.
