@@ -41,9 +41,5 @@ pub fn wankitare_run(
         state.new image.new accesses.new
         ≡ worded run_words (run_of images state.old image.old script.now accesses.old) }
 {
-    let mut tally = [0, 0];
-    let word = run::run(state, image, script, accesses, &mut tally);
-    *steps = tally[0];
-    *listed = tally[1];
-    word
+    run::run(state, image, script, accesses, steps, listed)
 }

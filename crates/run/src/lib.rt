@@ -2,29 +2,29 @@
 
 #![tactic(auto)]
 
-ghost use Rattle.std.specs.Prelude.{◌≡◌, [], ◌∷◌, ◌%◌, length, Err};
-ghost use Rattle.rules.specs.Answers.{step_word, ended};
+ghost use Rattle.std.specs.Prelude.{◌≡◌, ◌%◌, length, Err};
+ghost use Rattle.rules.specs.Answers.{step_word, run_words, ended};
 ghost use Rattle.rules.specs.Bus.{images};
 ghost use Rattle.rules.specs.Step.{step, left, worded};
 ghost use Rattle.rules.specs.Run.{start, play, run_of};
 ghost use Rattle.checks.specs.Checks.{Fits};
-ghost use Rattle.run.specs.Words.{tallied};
 
 use rules::Refusal;
 
 // Puts down the steps done and the accesses listed, and answers the word.
-fn told(tally: &mut [u64; 2], steps: usize, listed: usize, word: u64) -> u64
-    ensures { (result ≡ word) × (tally.new ≡ steps ∷ listed ∷ []) }
+fn told(steps: &mut u64, listed: &mut u64, done: usize, count: usize, word: u64) -> u64
+    ensures { (result ≡ word) × (steps.new ≡ done) × (listed.new ≡ count) }
 {
-    *tally = [steps as u64, listed as u64];
+    *steps = done as u64;
+    *listed = count as u64;
     word
 }
 
 // Refused "before anything".
-fn refused(tally: &mut [u64; 2], why: Refusal) -> u64
-    ensures { (result, tally.new) ≡ tallied (ended 0 0 (Err why)) }
+fn refused(steps: &mut u64, listed: &mut u64, why: Refusal) -> u64
+    ensures { record { word = result; steps = steps.new; listed = listed.new } ≡ run_words (ended 0 0 (Err why)) }
 {
-    told(tally, 0, 0, words::refusal_word(why))
+    told(steps, listed, 0, 0, words::refusal_word(why))
 }
 
 // The word of the step with these lines and pins.
@@ -46,41 +46,45 @@ fn play(
     image: &mut [u8],
     script: &[u8],
     accesses: &mut [u8],
-    tally: &mut [u64; 2],
+    steps: &mut u64,
+    listed: &mut u64,
 ) -> u64
     requires { Fits state.old image.old × (length script.now % 2 ≡ 0) }
-    ensures { left (result, tally.new) state.new image.new accesses.new
-        ≡ worded tallied (play images script.now (start state.old image.old accesses.old)) }
+    ensures { left (record { word = result; steps = steps.new; listed = listed.new })
+        state.new image.new accesses.new
+        ≡ worded run_words (play images script.now (start state.old image.old accesses.old)) }
 {
     let (turns, _rest) = script.as_chunks::<2>();
-    let mut listed: usize = 0;
-    for (steps, &[lines, pins]) in turns.iter().enumerate() {
-        let word = turn(state, image, lines, pins, &mut accesses[8 * listed..]);
+    let mut count: usize = 0;
+    for (done, &[lines, pins]) in turns.iter().enumerate() {
+        let word = turn(state, image, lines, pins, &mut accesses[8 * count..]);
         if word % 256 != 0 {
-            return told(tally, steps, listed, word);
+            return told(steps, listed, done, count, word);
         }
-        listed += (word / 256) as usize;
+        count += (word / 256) as usize;
     }
-    told(tally, turns.len(), listed, 0)
+    told(steps, listed, turns.len(), count, 0)
 }
 
-// "Run: 1, 2, 3, 7 before anything". Answers the word; the tally is the steps done and the accesses listed.
+// "Run: 1, 2, 3, 7 before anything". Answers the word, and puts down the steps done and the accesses listed.
 pub fn run(
     state: &mut [u8],
     image: &mut [u8],
     script: &[u8],
     accesses: &mut [u8],
-    tally: &mut [u64; 2],
+    steps: &mut u64,
+    listed: &mut u64,
 ) -> u64
-    ensures { left (result, tally.new) state.new image.new accesses.new
-        ≡ worded tallied (run_of images state.old image.old script.now accesses.old) }
+    ensures { left (record { word = result; steps = steps.new; listed = listed.new })
+        state.new image.new accesses.new
+        ≡ worded run_words (run_of images state.old image.old script.now accesses.old) }
 {
     if let Err(e) = checks::fit(state, image) {
-        return refused(tally, e);
+        return refused(steps, listed, e);
     }
     if script.len() % 2 != 0 {
-        return refused(tally, Refusal::ScriptLength);
+        return refused(steps, listed, Refusal::ScriptLength);
     }
     let bytes = state.as_mut_array::<16>().unwrap();
-    play(bytes, image, script, accesses, tally)
+    play(bytes, image, script, accesses, steps, listed)
 }

@@ -17,5 +17,5 @@ pub record Running (state₀ image₀ script accesses₀ state image accesses : 
       play images script (start state₀ image₀ accesses₀) ≡
       play images (drop (steps * 2) script) (standing steps listed state image accesses)
 
-abbrev pub invariant-loop-steps : goal.invariant-loop-steps
-invariant-loop-steps l = Running l.initial.state l.initial.image l.script l.initial.accesses l.state l.image l.accesses l.steps l.listed
+abbrev pub invariant-loop-done : goal.invariant-loop-done
+invariant-loop-done l = Running l.initial.state l.initial.image l.script l.initial.accesses l.state l.image l.accesses l.done l.count
