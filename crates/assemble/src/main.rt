@@ -2,8 +2,9 @@
 
 #![tactic(auto)]
 
-use arguments::{only, start_of};
+use arguments::only_start;
 use assembly_rules::Fault;
+use std::env::Env;
 use std::io;
 use streams::{fill, or_tell};
 
@@ -37,7 +38,10 @@ fn assemble_input(rt: &(impl Input + Print + Eprint + Alloc), start: u16) -> io:
 }
 
 fn main(rt: HostRuntime) -> io::Result<()> {
-    match only(&rt, &mut [0u8; 4]).and_then(start_of) {
+    let mut room = [0u8; 4];
+    let first = rt.arg(1, &mut room);
+    let second = rt.arg(2, &mut []);
+    match only_start(first, second, &room) {
         Some(start) => assemble_input(&rt, start),
         None => eprintln!(rt;
             "usage: assemble START <TEXT >BYTES, START in four hexadecimal digits"

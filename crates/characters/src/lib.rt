@@ -39,6 +39,7 @@ fn decimal(n: u64, bytes: &mut [u8; 20]) -> &[u8]
 }
 
 // Puts a piece of text at a place; answers where it ends.
+#[tactic(auto, using(crate::proofs::Laws::puts_copied))]
 pub fn put(text: &mut [u8], at: usize, piece: &[u8]) -> usize
     requires { at + length piece.now ≤ length text.old }
     ensures { Puts piece.now at result text.old text.new }

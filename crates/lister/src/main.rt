@@ -2,7 +2,8 @@
 
 #![tactic(auto)]
 
-use arguments::{only, start_of};
+use arguments::only_start;
+use std::env::Env;
 use std::io;
 use streams::{fill, or_tell};
 
@@ -43,7 +44,10 @@ fn list_input(rt: &(impl Input + Print + Eprint + Alloc), start: u16) -> io::Res
 }
 
 fn main(rt: HostRuntime) -> io::Result<()> {
-    match only(&rt, &mut [0u8; 4]).and_then(start_of) {
+    let mut room = [0u8; 4];
+    let first = rt.arg(1, &mut room);
+    let second = rt.arg(2, &mut []);
+    match only_start(first, second, &room) {
         Some(start) => list_input(&rt, start),
         None => eprintln!(rt; "usage: lister START <BYTES >TEXT, START in four hexadecimal digits"),
     }

@@ -33,6 +33,7 @@ pub mod Sequence
 pub mod Source
 pub mod Stacking
 pub mod State
+pub mod Streams
 pub mod Step
 pub mod Text
 pub mod Totals
