@@ -20,15 +20,9 @@ module _ {n : ℕ} (ps : List (ParamKind n)) (r : ResultKind n) where
   abbrev pub UniqueWhere : In n ps → Out n ps r → Type 0
   UniqueWhere Given Post = (κs : Lfts n) (a : Dens κs ps) → Given κs a → One Post κs a
 
-  -- the answer, and what is left of every buffer that was lent to be written
-  abbrev pub End : (κs : Lfts n) → Dens κs ps → Type 0
-  End κs a = (res_t r κs).Denot × Lasts (ended_of n ps r) κs a
-
-  -- a contract of what something outside has a part in, as a reader: one answer fits, once it is given what that did
-  abbrev pub UniqueGiven : ((κs : Lfts n) (a : Dens κs ps) → End κs a → Type 0) → Out n ps r → Type 0
-  UniqueGiven Given Post =
-      (κs : Lfts n) (a : Dens κs ps) (x y : End κs a) → Given κs a x → Given κs a y → Post κs a x.0 (at_exit (ended_of n ps r) κs a x.1) →
-      Post κs a y.0 (at_exit (ended_of n ps r) κs a y.1) → x ≡ y
+  -- a contract in which something outside has a part, as a reader: one answer fits, once what that did is given
+  abbrev pub UniqueGiven : Out n ps r → Out n ps r → Type 0
+  UniqueGiven Given Post = Unique (λ κs a x s. Given κs a x s × Post κs a x s)
 
 -- no buffer was lent
 pub answer : {A L : Type 0} {x y : A × L} {e : A} → x.1 ≡ y.1 → x.0 ≡ e → y.0 ≡ e → x ≡ y

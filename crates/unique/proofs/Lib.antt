@@ -33,8 +33,8 @@ pub mod Sequence
 pub mod Source
 pub mod Stacking
 pub mod State
-pub mod Streams
 pub mod Step
+pub mod Streams
 pub mod Text
 pub mod Totals
 pub mod Wiring

@@ -40,10 +40,10 @@ told_once (Err e) (Err told) y p q r s = absurd (false≢true p)
 module _ (T E A : RattleType) (t : Laws T) (e : Laws E) (l : Laws A) (print : eprint.Ghosts E.Denot) (print_dict : Dict)
     (room : alloc.Ghosts E.Denot A.Denot) (room_dict : Dict) (allocates : allocator.Ghosts A.Denot) (allocates_dict : Dict)
     (clones : clone.Ghosts A.Denot) (clones_dict drops drops_room : Dict) where
-  pub or_tell : UniqueGiven (its.or_tell.Kinds.ps T E A t e l) (its.or_tell.Kinds.r T E A t e l) (λ κs a x. Told x.0)
+  pub or_tell : UniqueGiven (its.or_tell.Kinds.ps T E A t e l) (its.or_tell.Kinds.r T E A t e l) (λ κs a x s. Told x)
       (its.or_tell.Reads.Post T E A t e l print print_dict room room_dict allocates allocates_dict clones clones_dict drops drops_room)
-  or_tell κs (to, (what, (Ok value, z))) x y p q r s = answer refl (told_once (Ok value) x.0 y.0 p q r s) refl
-  or_tell κs (to, (what, (Err e, z))) x y p q r s = answer refl (told_once (Err e) x.0 y.0 p q r s) refl
+  or_tell κs (to, (what, (Ok value, z))) x y p q = answer refl (told_once (Ok value) x.0 y.0 p.0 q.0 p.1 q.1) refl
+  or_tell κs (to, (what, (Err e, z))) x y p q = answer refl (told_once (Err e) x.0 y.0 p.0 q.0 p.1 q.1) refl
 
 -- what is left of known bytes tells how many were taken, and so which
 front_once : (known : List ℕ) (rest : Option (List ℕ)) (n m : ℕ) (b c behind : List ℕ) → n ≤ length b → m ≤ length c →
@@ -65,15 +65,15 @@ module _ (T : RattleType) (N : ℕ) (t : Laws T) (f : Fits w64 N) (reads : read.
 
   pub fill : (known : List ℕ) (left : T.Denot) (behind : List ℕ) →
       UniqueGiven (its.fill.Kinds.ps T N t f) (its.fill.Kinds.r T N t f)
-      (λ κs a x. Filled (reads.remaining a.0.now) known x.0 x.1.0 left x.1.1.0 behind)
+      (λ κs a x s. Filled (reads.remaining a.0.now) known x s.0.now left s.1.0.now behind)
       (its.fill.Reads.Post T N t f reads reads_dict)
-  fill known left behind κs a (Ok n, (u, (b, z))) (Ok m, (v, (c, w))) p q r s =
+  fill known left behind κs a (Ok n, (u, (b, z))) (Ok m, (v, (c, w))) p q =
       let o =
-      front_once known (reads.remaining left) n m b c behind r.0 s.0
-      (consumed _ _ _ _ _ p.0 p.1.0 r.1.0)
-      (consumed _ _ _ _ _ q.0 q.1.0 s.1.0)
-      p.1.1
-      q.1.1
-      in λ j. (Ok (o.0 j), ((p.1.0 ∙ sym q.1.0) j, (o.1 j, tt)))
-  fill known left behind κs a (Err n, x) y p q r s = absurd p.1
-  fill known left behind κs a x (Err n, y) p q r s = absurd q.1
+      front_once known (reads.remaining left) n m b c behind p.1.0 q.1.0
+      (consumed _ _ _ _ _ p.0.0 p.0.1.0 p.1.1.0)
+      (consumed _ _ _ _ _ q.0.0 q.0.1.0 q.1.1.0)
+      p.0.1.1
+      q.0.1.1
+      in λ j. (Ok (o.0 j), ((p.0.1.0 ∙ sym q.0.1.0) j, (o.1 j, tt)))
+  fill known left behind κs a (Err n, x) y p q = absurd p.0.1
+  fill known left behind κs a x (Err n, y) p q = absurd q.0.1
